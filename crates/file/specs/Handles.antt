@@ -1,0 +1,42 @@
+-- Document 01: open, check 1, and what a granted call changes in a handle.
+use Prim.Native.Nat.{ℕ}
+use mathlib.Core.Bool.{Bool, cond}
+use lib.Dec.{eqb, leb}
+use Rattle.laws.specs.Checks.{also}
+use Rattle.view.specs.declared.View.{View}
+use Rattle.view.specs.Limits.{pointerAllowed, fileAllowed}
+use Rattle.view.specs.Types.{PaperView, paper, defaultView}
+use Rattle.view.specs.Rules.{accepted, modeAllowed}
+use Rattle.file.specs.declared.Handle.{Handle}
+use Rattle.file.specs.declared.FileRecord.{FileRecord}
+
+-- the view of a handle, on paper
+unfoldable pub viewOf : Handle → PaperView
+viewOf h = paper (h .view)
+
+-- a handle with the default view and pointer 0
+unfoldable pub freshHandle : ℕ → Handle
+freshHandle mode = record { mode = mode; pointer = 0; view = defaultView }
+
+-- an open that names no mode (0) gets 3
+unfoldable pub modeGot : ℕ → ℕ
+modeGot mode = cond (eqb mode 0) 3 mode
+
+-- check 1 where the file is not looked at: the mode is 1 to 3, and pointer and view break no rule
+unfoldable pub handleKept : Handle → Bool
+handleKept h = also (modeAllowed (h .mode)) (also (pointerAllowed (h .pointer)) (accepted (h .mode) (viewOf h)))
+
+-- check 1 where it is: nor does the file, of this length, break its limits
+unfoldable pub fileKept : Handle → ℕ → FileRecord → Bool
+fileKept h length r = also (handleKept h) (fileAllowed length (r .size))
+
+-- the handle with another pointer, and the one after a successful set: the new view, pointer 0
+unfoldable pub withPointer : Handle → ℕ → Handle
+withPointer h p = record { mode = h .mode; pointer = p; view = h .view }
+
+unfoldable pub withView : Handle → View → Handle
+withView h v = record { mode = h .mode; pointer = 0; view = v }
+
+-- the file record with another size
+unfoldable pub withSize : FileRecord → ℕ → FileRecord
+withSize r size = record { size = size }

@@ -1,0 +1,88 @@
+-- Document 01, "Refusal numbers": for each call its checks in its order.
+use Prim.Native.Nat.{ℕ, _+_, _*_}
+use mathlib.Core.Bool.{Bool, false, cond}
+use mathlib.Core.List.{List}
+use lib.Dec.{leb, eqb}
+use lib.IntN.{ℤ, pos, negsuc, _+ℤ_}
+use Rattle.laws.specs.Checks.{also, check}
+use Rattle.view.specs.Limits.{offsetAllowed, pointerAllowed}
+use Rattle.view.specs.Types.{PaperView, entries, whole}
+use Rattle.view.specs.Rules.{setRefusal, allowsReading, allowsWriting}
+use Rattle.view.specs.Places.{dataSize}
+use Rattle.view.specs.End.{endOfFile}
+use Rattle.mover.specs.Moves.{writeEnd}
+use Rattle.file.specs.declared.Handle.{Handle}
+use Rattle.file.specs.declared.FileRecord.{FileRecord}
+use Rattle.file.specs.Handles.{viewOf, handleKept, fileKept}
+
+-- open: 16 only
+unfoldable pub openRefusal : ℕ → ℕ
+openRefusal mode = check (leb mode 3) 16 0
+
+-- set: 1 to 10, the file not being looked at
+unfoldable pub setViewRefusal : Handle → List ℕ → PaperView → ℕ
+setViewRefusal h representation v = check (handleKept h) 1 (setRefusal (h .mode) representation v)
+
+-- giving back: 1, 13; each list against its own entry count
+unfoldable pub giveBackRefusal : Handle → ℕ → ℕ → ℕ → ℕ → ℕ
+giveBackRefusal h etypeWidths etypeDisplacements filetypeWidths filetypeDisplacements =
+    check (handleKept h) 1
+    (check (also (leb (entries (viewOf h .etype)) etypeWidths) (also (leb (entries (viewOf h .etype)) etypeDisplacements)
+    (also (leb (entries (viewOf h .filetype)) filetypeWidths) (leb (entries (viewOf h .filetype)) filetypeDisplacements)))) 13
+    0)
+
+-- place: 1, 12
+unfoldable pub placeRefusal : Handle → ℤ → ℕ
+placeRefusal h o = check (handleKept h) 1 (check (offsetAllowed o) 12 0)
+
+-- reverse: 1, 11
+unfoldable pub reverseRefusal : Handle → ℕ
+reverseRefusal h = check (handleKept h) 1 (check (allowsWriting (h .mode)) 11 0)
+
+-- end: 1
+unfoldable pub endRefusal : Handle → ℕ → FileRecord → ℕ
+endRefusal h length r = check (fileKept h length r) 1 0
+
+-- seek's target: whence 0 sets, 1 adds to the pointer, 2 adds to the end of file
+unfoldable pub seekTarget : Handle → FileRecord → ℤ → ℕ → ℤ
+seekTarget h r o whence =
+    cond (eqb whence 0) o
+    (cond (eqb whence 1) (pos (h .pointer) +ℤ o)
+    (pos (endOfFile (viewOf h) (r .size)) +ℤ o))
+
+-- 12 of seek: the target is from 0 to 2^32
+unfoldable pub targetAllowed : ℤ → Bool
+targetAllowed (pos p) = pointerAllowed p
+targetAllowed (negsuc p) = false
+
+-- seek: 1, 15, 12; the file is looked at for every whence
+unfoldable pub seekRefusal : Handle → ℕ → FileRecord → ℤ → ℕ → ℕ
+seekRefusal h length r o whence =
+    check (fileKept h length r) 1
+    (check (leb whence 2) 15
+    (check (targetAllowed (seekTarget h r o whence)) 12
+    0))
+
+-- 12 of an access: the offset is not negative, and offset + count at most 2^32
+unfoldable pub accessAllowed : ℤ → ℕ → Bool
+accessAllowed (pos o) c = leb (o + c) 4294967296
+accessAllowed (negsuc o) c = false
+
+-- read: 1, 11, 12, 13
+unfoldable pub readRefusal : Handle → ℕ → FileRecord → ℤ → ℕ → ℕ → ℕ
+readRefusal h length r o c buffer =
+    check (fileKept h length r) 1
+    (check (allowsReading (h .mode)) 11
+    (check (accessAllowed o c) 12
+    (check (leb (c * dataSize (viewOf h)) buffer) 13
+    0)))
+
+-- write: 1, 11, 12, 13, 14; the highest byte lies below the file length
+unfoldable pub writeRefusal : Handle → ℕ → FileRecord → ℤ → ℕ → ℕ → ℕ
+writeRefusal h length r o c buffer =
+    check (fileKept h length r) 1
+    (check (allowsWriting (h .mode)) 11
+    (check (accessAllowed o c) 12
+    (check (leb (c * dataSize (viewOf h)) buffer) 13
+    (check (leb (writeEnd (viewOf h) (whole o) c) length) 14
+    0))))

@@ -1,0 +1,5 @@
+pub mod Booleans
+pub mod Searching
+pub mod Sums
+pub mod Stores
+pub mod Quotients

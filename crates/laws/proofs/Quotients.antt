@@ -1,0 +1,25 @@
+-- Laws of quotients and remainders by a variable, which `omega` does not read.
+use Prim.Native.Nat.{ℕ, zero, suc, _+_, _-_, _*_, _/_, _%_, _≤_, _<_}
+use mathlib.Core.Path.{_≡_, refl, sym, ap, _∙_}
+use native.Mathlib.Nat.{div-add-mod', mod-lt, mul-add-div-right, mul-add-mod-self-right, mod-eq-of-lt, div-eq-of-lt, add-zero, add-mul, one-mul, mul-le-mul-right, div-lt-iff-lt-mul, div-mul-le-self, le-div-iff-mul-le, mul-comm}
+use native.Mathlib.Omega.{arith}
+
+-- quotient and remainder of t whole runs of n and r more
+pub run-div : (n t r : ℕ) → r < n → (t * n + r) / n ≡ t
+run-div n t r h = mul-add-div-right (omega arith) t r ∙ (ap (λ (z : ℕ). t + z) (div-eq-of-lt h) ∙ add-zero t)
+
+pub run-mod : (n t r : ℕ) → r < n → (t * n + r) % n ≡ r
+run-mod n t r h = mul-add-mod-self-right t n r ∙ mod-eq-of-lt h
+
+pub times-more : (t s : ℕ) → (t + 1) * s ≡ t * s + s
+times-more t s = add-mul t 1 s ∙ ap (λ (x : ℕ). t * s + x) (one-mul s)
+
+-- number r of run t, out of k runs of n, is below k * n
+pub run-below : (k n t r : ℕ) → t < k → r < n → t * n + r < k * n
+run-below k n t r h l = omega (arith, mul-le-mul-right {m = t + 1} {n = k} n (omega arith), times-more t n)
+
+pub runs-below : (k n i : ℕ) → 0 < n → i < k * n → i / n < k
+runs-below k n i p l = div-lt-iff-lt-mul p .1 l
+
+pub div-mono : (n i k : ℕ) → 0 < n → i ≤ k → i / n ≤ k / n
+div-mono n i k p h = le-div-iff-mul-le p .1 (omega (arith, div-mul-le-self i n))

@@ -1,0 +1,124 @@
+-- Laws of `first` and `all`: what a search returns, and the invariant of the loop that makes it.
+use Prim.Native.Nat.{ℕ, zero, suc, _+_, _*_, _/_, _%_, _≤_, _<_}
+use mathlib.Core.Bool.{Bool, true, false, cond, true≢false}
+use mathlib.Core.Logic.{_⊎_, inl, inr, ⊎-elim}
+use mathlib.Core.Path.{_≡_, refl, sym, ap, _∙_}
+use native.Mathlib.Nat.{eq-or-lt-of-le}
+use native.Mathlib.Omega.{arith}
+use lib.Dec.{eqb}
+use borrow.Author.Count.{below-more}
+use borrow.Author.Needs.{needs}
+use borrow.Author.Tests.{eq-eqb, ne-eqb, eqb-true, le-ltb, lt-ltb, le-leb, lt-leb}
+use Rattle.laws.specs.Search.{first, all, searched}
+use Rattle.laws.proofs.Booleans.{eq-or-ne, iff, flag-true, flag-false, unflag-true, unflag-false}
+
+searched-le : (n f : ℕ) (b : Bool) → f ≤ n → searched n f b ≤ suc n
+searched-le n f b h = ⊎-elim (λ q. rw (eq-eqb f n q) (last b)) (λ q. rw (ne-eqb f n q) (omega arith)) (eq-or-ne f n)
+  where
+    last : (c : Bool) → cond c (suc n) n ≤ suc n
+    last true = omega arith
+    last false = omega arith
+
+pub first-le : (p : ℕ → Bool) (n : ℕ) → first p n ≤ n
+unfolding first
+first-le p zero = omega arith
+first-le p (suc n) = searched-le n (first p n) (p n) (first-le p n)
+
+-- what is found is r, where r keeps to what a search finds
+searched-is : (p : ℕ → Bool) (n r f : ℕ) → r ≤ suc n → ((k : ℕ) → k < r → p k ≡ true) → (r < suc n → p r ≡ false) → (n ≤ r → f ≡ n) → (r < n → f ≡ r) → r ≡ searched n f (p n)
+searched-is p n r f le keeps breaks top low = ⊎-elim past (λ h. ⊎-elim (at h) (below h) (eq-or-lt-of-le (omega arith))) (eq-or-lt-of-le le)
+  where
+    past : r ≡ suc n → r ≡ searched n f (p n)
+    past e = simp (eq-eqb f n (top (omega arith)), keeps n (omega arith)) e
+
+    at : r < suc n → r ≡ n → r ≡ searched n f (p n)
+    at h e = simp (eq-eqb f n (top (omega arith)), ap p (sym e) ∙ breaks h) e
+
+    below : r < suc n → r < n → r ≡ searched n f (p n)
+    below h l = let e = low l in simp (ne-eqb f n (λ q. omega arith)) (sym e)
+
+-- a number within n that breaks the rule, if below n, and before which nothing does, is what the search finds
+pub first-is : (p : ℕ → Bool) (n r : ℕ) → r ≤ n → ((k : ℕ) → k < r → p k ≡ true) → (r < n → p r ≡ false) → r ≡ first p n
+unfolding first
+first-is p zero r le keeps breaks = omega arith
+first-is p (suc n) r le keeps breaks =
+    searched-is p n r (first p n) le keeps breaks
+    (λ h. sym (first-is p n n (omega arith) (λ k l. keeps k (omega arith)) (λ l. absurd (omega arith))))
+    (λ h. sym (first-is p n r (omega arith) keeps (λ l. breaks (omega arith))))
+
+-- ---- what is known of the index that is found
+
+searched-keeps : (p : ℕ → Bool) (n f : ℕ) → ((k : ℕ) → k < f → p k ≡ true) → (k : ℕ) → k < searched n f (p n) → p k ≡ true
+searched-keeps p n f keeps k l = ⊎-elim (λ q. ⊎-elim (λ e. ap p e ∙ top q e (p n) refl) (λ e. keeps k (omega arith)) (eq-or-lt-of-le {n = k} {m = n} (bound q (p n) refl))) (λ q. keeps k (simp (ne-eqb f n q) at l)) (eq-or-ne f n)
+  where
+    bound : f ≡ n → (b : Bool) → p n ≡ b → k ≤ n
+    bound q true e = omega (arith, simp (eq-eqb f n q, e) at l)
+    bound q false e = omega (arith, simp (eq-eqb f n q, e) at l)
+
+    top : f ≡ n → k ≡ n → (b : Bool) → p n ≡ b → p n ≡ true
+    top q d true e = e
+    top q d false e = absurd (omega (arith, simp (eq-eqb f n q, e) at l))
+
+pub first-keeps : (p : ℕ → Bool) (n k : ℕ) → k < first p n → p k ≡ true
+unfolding first
+first-keeps p zero k l = absurd (omega arith)
+first-keeps p (suc n) k l = searched-keeps p n (first p n) (first-keeps p n) k l
+
+searched-breaks : (p : ℕ → Bool) (n f : ℕ) → f ≤ n → (f < n → p f ≡ false) → searched n f (p n) < suc n → p (searched n f (p n)) ≡ false
+searched-breaks p n f le breaks l = ⊎-elim (λ q. last q (p n) refl) (λ q. rw (ne-eqb f n q) (breaks (omega arith))) (eq-or-ne f n)
+  where
+    last : f ≡ n → (b : Bool) → p n ≡ b → p (searched n f (p n)) ≡ false
+    last q true e = absurd (omega (arith, simp (eq-eqb f n q, e) at l))
+    last q false e = simp (eq-eqb f n q, e)
+
+pub first-breaks : (p : ℕ → Bool) (n : ℕ) → first p n < n → p (first p n) ≡ false
+unfolding first
+first-breaks p zero l = absurd (omega arith)
+first-breaks p (suc n) l = searched-breaks p n (first p n) (first-le p n) (first-breaks p n) l
+
+-- ---- the loop's invariant: nothing before i breaks the rule
+
+pub record Passed (p : ℕ → Bool) (i n : ℕ) : Type 0 where
+  pub reached : i ≤ n
+  pub keeps : (k : ℕ) → k < i → p k ≡ true
+
+pub passed-none : (p : ℕ → Bool) (n : ℕ) → Passed p 0 n
+passed-none p n = record { reached = omega arith; keeps = λ k h. absurd (omega arith) }
+
+pub passed-more : (p : ℕ → Bool) (i n : ℕ) → Passed p i n → i < n → p i ≡ true → Passed p (i + 1) n
+passed-more p i n s l h = record { reached = omega arith; keeps = below-more _ _ (s .keeps) h }
+
+pub passed-stop : (p : ℕ → Bool) (i n : ℕ) → Passed p i n → i < n → p i ≡ false → i ≡ first p n
+passed-stop p i n s l h = first-is p n i (s .reached) (s .keeps) (λ q. h)
+
+pub passed-end : (p : ℕ → Bool) (i n : ℕ) → Passed p i n → n ≤ i → i ≡ first p n
+passed-end p i n s l = first-is p n i (s .reached) (s .keeps) (λ q. absurd (omega arith))
+
+-- ---- a rule that holds everywhere
+
+pub all-intro : (p : ℕ → Bool) (n : ℕ) → ((k : ℕ) → k < n → p k ≡ true) → all p n ≡ true
+unfolding all
+all-intro p n h = eq-eqb (first p n) n (sym (first-is p n n (omega arith) h (λ l. absurd (omega arith))))
+
+pub all-at : (p : ℕ → Bool) (n : ℕ) → all p n ≡ true → (k : ℕ) → k < n → p k ≡ true
+unfolding all
+all-at p n h k l = first-keeps p n k (omega (arith, eqb-true (first p n) n h))
+
+pub all-same : (p q : ℕ → Bool) (n : ℕ) → ((k : ℕ) → k < n → p k ≡ q k) → all p n ≡ all q n
+all-same p q n h = iff (all p n) (all q n) (λ e. all-intro q n (λ k l. sym (h k l) ∙ all-at p n e k l)) (λ e. all-intro p n (λ k l. h k l ∙ all-at q n e k l))
+
+pub all-yes : (p : ℕ → Bool) (n r : ℕ) → r ≡ first p n → r ≡ n → all p n ≡ true
+unfolding all
+all-yes p n r e h = eq-eqb _ _ (sym e ∙ h)
+
+pub all-no : (p : ℕ → Bool) (n r : ℕ) → r ≡ first p n → (r ≡ n → ⊥) → all p n ≡ false
+unfolding all
+all-no p n r e h = ne-eqb _ _ (λ q. h (e ∙ q))
+
+pub passed-fails : (p : ℕ → Bool) (i n : ℕ) → Passed p i n → i < n → p i ≡ false → false ≡ all p n
+passed-fails p i n s l h = sym (all-no p n i (passed-stop p i n s l h) (λ q. omega arith))
+
+pub passed-holds : (p : ℕ → Bool) (i n : ℕ) → Passed p i n → n ≤ i → true ≡ all p n
+passed-holds p i n s l = sym (all-yes p n i (passed-end p i n s l) (omega (arith, s .reached)))
+
+pub ruleset searching = (needs, le-ltb, lt-ltb, le-leb, lt-leb, eq-eqb, ne-eqb, flag-true, flag-false, unflag-true, unflag-false, passed-none, passed-more, passed-stop, passed-end, passed-fails, passed-holds)

@@ -1,0 +1,91 @@
+-- Laws of `tabulate` and `store`.
+use Prim.Native.Nat.{ℕ, zero, suc, _+_, _-_, _≤_, _<_}
+use mathlib.Core.List.{List, [], _∷_}
+use mathlib.Core.Logic.{⊎-elim, _≢_}
+use mathlib.Core.Path.{_≡_, refl, sym, ap, _∙_, subst}
+use native.Mathlib.Nat.{eq-or-lt-of-le}
+use native.Mathlib.Numerals.{add-one}
+use native.Mathlib.Omega.{arith}
+use borrow.Author.Needs.{needs}
+use lib.ListN.{length, getD, set, length-set}
+use lib.Seq.{getD-set-same, getD-set-other, ext-getD}
+use Rattle.laws.specs.Lists.{tabulate, store, front, nth}
+
+pub length-tabulate : {A : Type 0} (f : ℕ → A) (n : ℕ) → length (tabulate f n) ≡ n
+unfolding tabulate
+length-tabulate f zero = refl
+length-tabulate f (suc n) = ap suc (length-tabulate (λ i. f (suc i)) n)
+
+pub tabulate-at : {A : Type 0} (f : ℕ → A) (n i : ℕ) (d : A) → i < n → getD (tabulate f n) i d ≡ f i
+unfolding tabulate
+tabulate-at f zero i d l = absurd (omega arith)
+tabulate-at f (suc n) zero d l = refl
+tabulate-at f (suc n) (suc i) d l = tabulate-at (λ k. f (suc k)) n i d (omega arith)
+
+pub tabulate-same : {A : Type 0} (f g : ℕ → A) (n : ℕ) → ((i : ℕ) → i < n → f i ≡ g i) → tabulate f n ≡ tabulate g n
+unfolding tabulate
+tabulate-same f g zero h = refl
+tabulate-same f g (suc n) h =
+    let a = h 0 (omega arith) in
+    let b = tabulate-same (λ i. f (suc i)) (λ i. g (suc i)) n (λ i l. h (suc i) (omega arith)) in
+    cc
+
+-- a list is the table of its elements
+pub tabulate-is : {A : Type 0} (f : ℕ → A) (n : ℕ) (d : A) (l : List A) → length l ≡ n → ((i : ℕ) → i < n → f i ≡ getD l i d) → tabulate f n ≡ l
+tabulate-is f n d l e h = ext-getD d (tabulate f n) l (length-tabulate f n ∙ sym e) (λ i q. let b : i < n = omega (arith, length-tabulate f n) in tabulate-at f n i d b ∙ h i b)
+
+-- ---- stores
+
+pub length-store : (place value : ℕ → ℕ) (n : ℕ) (l : List ℕ) → length (store place value n l) ≡ length l
+unfolding store
+length-store place value zero l = refl
+length-store place value (suc n) l = rw length-set (length-store place value n l)
+
+pub store-none : (place value : ℕ → ℕ) (l : List ℕ) → l ≡ store place value 0 l
+unfolding store
+store-none place value l = refl
+
+-- one store more, as a loop makes it
+pub store-more : (place value : ℕ → ℕ) (n p x : ℕ) (l₀ l : List ℕ) → l ≡ store place value n l₀ → p ≡ place n → x ≡ value n → set l p x ≡ store place value (n + 1) l₀
+unfolding store
+store-more place value n p x l₀ l e ep ex = rw (add-one n) (cc)
+
+pub store-end : (place value : ℕ → ℕ) (i n : ℕ) (l₀ l : List ℕ) → l ≡ store place value i l₀ → i ≤ n → n ≤ i → l ≡ store place value n l₀
+store-end place value i n l₀ l e a b = let h : i ≡ n = omega arith in cc
+
+pub ruleset storing = (needs, store-none, store-more, store-end)
+
+-- a place that no store goes to
+pub store-other : (place value : ℕ → ℕ) (n : ℕ) (l : List ℕ) (b : ℕ) → ((k : ℕ) → k < n → b ≢ place k) → getD (store place value n l) b 0 ≡ getD l b 0
+unfolding store
+store-other place value zero l b h = refl
+store-other place value (suc n) l b h =
+    getD-set-other (store place value n l) (place n) b (value n) 0 (h n (omega arith)) ∙ store-other place value n l b (λ k q. h k (omega arith))
+
+-- the place of store j, to which no later store goes
+pub store-at : (place value : ℕ → ℕ) (n : ℕ) (l : List ℕ) (j : ℕ) → j < n → place j < length l → ((k : ℕ) → k < n → j < k → place j ≢ place k) → getD (store place value n l) (place j) 0 ≡ value j
+unfolding store
+store-at place value zero l j q f h = absurd (omega arith)
+store-at place value (suc n) l j q f h = ⊎-elim last (λ b. before b (store-at place value n l j b f (λ k x y. h k (omega arith) y))) (eq-or-lt-of-le {n = j} {m = n} (omega arith))
+  where
+    last : j ≡ n → getD (set (store place value n l) (place n) (value n)) (place j) 0 ≡ value j
+    last e = rw e (getD-set-same (store place value n l) (place n) (value n) 0 (rw (length-store place value n l) (subst (λ (x : ℕ). place x < length l) e f)))
+
+    before : j < n → getD (store place value n l) (place j) 0 ≡ value j → getD (set (store place value n l) (place n) (value n)) (place j) 0 ≡ value j
+    before b e = getD-set-other (store place value n l) (place n) (place j) (value n) 0 (h n (omega arith) b) ∙ e
+
+pub store-same : (place value place' value' : ℕ → ℕ) (n : ℕ) (l : List ℕ) → ((k : ℕ) → k < n → place k ≡ place' k) → ((k : ℕ) → k < n → value k ≡ value' k) → store place value n l ≡ store place' value' n l
+unfolding store
+store-same place value place' value' zero l hp hv = refl
+store-same place value place' value' (suc n) l hp hv =
+    let e = store-same place value place' value' n l (λ k q. hp k (omega arith)) (λ k q. hv k (omega arith)) in
+    let p = hp n (omega arith) in
+    let v = hv n (omega arith) in
+    cc
+
+-- an element of the front, and one behind it
+pub front-at : (value : ℕ → ℕ) (n : ℕ) (l : List ℕ) (i : ℕ) → i < n → i < length l → getD (front value n l) i 0 ≡ value i
+front-at value n l i a b = store-at (λ k. k) value n l i a b (λ k x y. λ e. omega arith)
+
+pub front-past : (value : ℕ → ℕ) (n : ℕ) (l : List ℕ) (i : ℕ) → n ≤ i → getD (front value n l) i 0 ≡ getD l i 0
+front-past value n l i a = store-other (λ k. k) value n l i (λ k x. λ e. omega arith)

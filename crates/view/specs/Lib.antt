@@ -1,0 +1,6 @@
+pub mod Limits
+pub mod Types
+pub mod Rules
+pub mod Places
+pub mod Owners
+pub mod End

@@ -1,0 +1,147 @@
+-- Document 01, "When a view is accepted", and refusals 2 to 10.
+use Prim.Native.Nat.{ℕ, zero, suc, _+_, _-_, _*_, _/_, _%_}
+use mathlib.Core.Bool.{Bool, true, false, cond, not}
+use mathlib.Core.List.{List, [], _∷_}
+use mathlib.Core.Path.{_≡_}
+use lib.Dec.{leb, ltb, eqb}
+use lib.IntN.{ℤ, pos}
+use lib.ListN.{length, getD, replicate}
+use Rattle.laws.specs.Checks.{also, either, within, check}
+use Rattle.laws.specs.Search.{all}
+use Rattle.laws.specs.Lists.{front, nth}
+use Rattle.view.specs.declared.View.{View}
+use Rattle.view.specs.Limits.{widthAllowed, etypeEntriesAllowed, filetypeEntriesAllowed, entryDisplacementAllowed, extentAllowed, displacementAllowed}
+use Rattle.view.specs.Types.{PaperType, PaperView, entries, widthAt, displacementAt, extentOf, whole, paper}
+
+-- ---- limits
+
+-- 2: the representation is exactly the six bytes `native`
+unfoldable pub native : List ℕ
+native = 110 ∷ 97 ∷ 116 ∷ 105 ∷ 118 ∷ 101 ∷ []
+
+unfoldable pub isNative : List ℕ → Bool
+isNative r = also (eqb (length r) 6) (all (λ i. eqb (nth r i) (nth native i)) 6)
+
+-- 4: a type's two lists have one length
+unfoldable pub paired : PaperType → Bool
+paired t = eqb (length (t .widths)) (length (t .displacements))
+
+-- 6: width and displacement of entry i are allowed
+unfoldable pub entryAllowed : PaperType → ℕ → Bool
+entryAllowed t i = also (widthAllowed (widthAt t i)) (entryDisplacementAllowed (widthAt t i) (getD (t .displacements) i (pos 0)))
+
+unfoldable pub entriesAllowed : PaperType → Bool
+entriesAllowed t = all (entryAllowed t) (entries t)
+
+-- ---- Ordered: the displacements never decrease
+
+unfoldable pub ordered : (ℕ → ℕ) → ℕ → Bool
+ordered d n = all (λ i. leb (d i) (d (i + 1))) (n - 1)
+
+unfoldable pub typeOrdered : PaperType → Bool
+typeOrdered t = ordered (displacementAt t) (entries t)
+
+-- ---- Built of the etype
+
+-- K, how many instances of the etype the filetype has
+unfoldable pub instances : PaperView → ℕ
+instances v = entries (v .filetype) / entries (v .etype)
+
+-- p(i), the origin of instance i: how far its first entry is shifted from the etype's
+unfoldable pub origin : PaperView → ℕ → ℕ
+origin v i = displacementAt (v .filetype) (i * entries (v .etype)) - displacementAt (v .etype) 0
+
+-- entry i of the filetype is entry i mod n of the etype, shifted by the origin of its group, which is at least 0
+unfoldable pub entryBuilt : PaperView → ℕ → Bool
+entryBuilt v i =
+    let n = entries (v .etype) in
+    also (eqb (widthAt (v .filetype) i) (widthAt (v .etype) (i % n)))
+    (also (leb (displacementAt (v .etype) 0) (displacementAt (v .filetype) (i / n * n)))
+    (eqb (displacementAt (v .filetype) i) (displacementAt (v .etype) (i % n) + origin v (i / n))))
+
+-- the filetype's entries fall into whole groups of n, each built so
+unfoldable pub built : PaperView → Bool
+built v = also (eqb (entries (v .filetype) % entries (v .etype)) 0) (all (entryBuilt v) (entries (v .filetype)))
+
+-- ---- Holes: p(0); each p(i+1) - p(i) - E that is positive; F - p(K-1) - E if positive
+
+-- the hole before instance i of k with origins p, and for i = k the last one; 0 where there is none (a difference that is not positive is 0 here)
+unfoldable pub hole : (ℕ → ℕ) → ℕ → ℕ → ℕ → ℕ → ℕ
+hole p k e f zero = p 0
+hole p k e f (suc i) = cond (ltb (suc i) k) (p (suc i)) f - p i - e
+
+-- each is a multiple of E
+unfoldable pub holesFit : (ℕ → ℕ) → ℕ → ℕ → ℕ → Bool
+holesFit p k e f = all (λ i. eqb (hole p k e f i % e) 0) (k + 1)
+
+unfoldable pub viewHolesFit : PaperView → Bool
+viewHolesFit v = holesFit (origin v) (instances v) (extentOf (v .etype)) (extentOf (v .filetype))
+
+-- ---- Overlap
+
+-- where the entry after entry i begins; the one after the last is the first of the next tile
+unfoldable pub nextBegins : PaperView → ℕ → ℕ
+nextBegins v i = cond (ltb (i + 1) (entries (v .filetype))) (displacementAt (v .filetype) (i + 1)) (displacementAt (v .filetype) 0 + extentOf (v .filetype))
+
+-- entry i ends at or before the next one begins
+unfoldable pub entryApart : PaperView → ℕ → Bool
+entryApart v i = leb (displacementAt (v .filetype) i + widthAt (v .filetype) i) (nextBegins v i)
+
+unfoldable pub apart : PaperView → Bool
+apart v = all (entryApart v) (entries (v .filetype))
+
+-- ---- modes: 1 reading, 2 writing, 3 both
+
+unfoldable pub modeAllowed : ℕ → Bool
+modeAllowed mode = within 1 3 mode
+
+unfoldable pub allowsReading : ℕ → Bool
+allowsReading mode = either (eqb mode 1) (eqb mode 3)
+
+unfoldable pub allowsWriting : ℕ → Bool
+allowsWriting mode = either (eqb mode 2) (eqb mode 3)
+
+-- ---- refusals 3 to 10 in their order, and 2 before them
+
+unfoldable pub viewRefusal : ℕ → PaperView → ℕ
+viewRefusal mode v =
+    check (displacementAllowed (v .displacement)) 3
+    (check (also (paired (v .etype)) (also (paired (v .filetype)) (also (etypeEntriesAllowed (entries (v .etype))) (filetypeEntriesAllowed (entries (v .etype)) (entries (v .filetype)))))) 4
+    (check (also (extentAllowed (v .etype .extent)) (extentAllowed (v .filetype .extent))) 5
+    (check (also (entriesAllowed (v .etype)) (entriesAllowed (v .filetype))) 6
+    (check (also (typeOrdered (v .etype)) (typeOrdered (v .filetype))) 7
+    (check (built v) 8
+    (check (viewHolesFit v) 9
+    (check (either (not (allowsWriting mode)) (apart v)) 10
+    0)))))))
+
+unfoldable pub setRefusal : ℕ → List ℕ → PaperView → ℕ
+setRefusal mode representation v = check (isNative representation) 2 (viewRefusal mode v)
+
+-- the view keeps the limits and rules for this mode
+unfoldable pub accepted : ℕ → PaperView → Bool
+accepted mode v = eqb (viewRefusal mode v) 0
+
+-- the same of a mode that does not write: every limit and rule but overlap's, which each accepted view keeps
+pub record Kept (v : PaperView) : Type 0 where
+  pub keeps : accepted 1 v ≡ true
+
+-- ---- the record that an accepted view is held in; its unused places are 0
+
+unfoldable pub hold : PaperView → View
+hold v =
+    let n = entries (v .etype) in
+    record {
+      displacement = whole (v .displacement);
+      etype = record {
+        entries = n;
+        widths = front (widthAt (v .etype)) n (replicate 8 0);
+        displacements = front (displacementAt (v .etype)) n (replicate 8 0);
+        extent = extentOf (v .etype);
+      };
+      filetype = record {
+        instances = instances v;
+        origins = front (origin v) (instances v) (replicate 64 0);
+        extent = extentOf (v .filetype);
+      };
+    }

@@ -1,0 +1,66 @@
+-- Document 01, "A type on paper": types and views as lists and numbers, and the ones that a held record stands for.
+use Prim.Native.Nat.{ℕ, zero, suc, _+_, _*_, _/_, _%_}
+use mathlib.Core.List.{List, [], _∷_}
+use lib.IntN.{ℤ, pos, negsuc}
+use lib.ListN.{length, getD, replicate}
+use Rattle.laws.specs.Lists.{tabulate, nth, front}
+use Rattle.view.specs.declared.View.{View}
+
+-- a type on paper: a list of widths, a list of signed displacements, and an extent
+pub record PaperType : Type 0 where
+  pub widths : List ℕ
+  pub displacements : List ℤ
+  pub extent : ℤ
+
+-- a view on paper: displacement, etype and filetype
+pub record PaperView : Type 0 where
+  pub displacement : ℤ
+  pub etype : PaperType
+  pub filetype : PaperType
+
+-- a signed number that is at least 0, as a natural one; the rules ask it of no other
+unfoldable pub whole : ℤ → ℕ
+whole (pos n) = n
+whole (negsuc n) = 0
+
+-- how many entries a type has
+unfoldable pub entries : PaperType → ℕ
+entries t = length (t .widths)
+
+-- the width and the displacement of entry i, and the extent
+unfoldable pub widthAt : PaperType → ℕ → ℕ
+widthAt t i = nth (t .widths) i
+
+unfoldable pub displacementAt : PaperType → ℕ → ℕ
+displacementAt t i = whole (getD (t .displacements) i (pos 0))
+
+unfoldable pub extentOf : PaperType → ℕ
+extentOf t = whole (t .extent)
+
+-- the view that a held record stands for: of the etype's lists the places in use, and for each origin in use the etype shifted by it.
+-- All that is said of a record below is said of this; what its other places hold plays no part
+unfoldable pub paper : View → PaperView
+paper v =
+    let n = v .etype .entries in
+    let k = v .filetype .instances in
+    record {
+      displacement = pos (v .displacement);
+      etype = record {
+        widths = tabulate (λ i. nth (v .etype .widths) i) n;
+        displacements = tabulate (λ i. pos (nth (v .etype .displacements) i)) n;
+        extent = pos (v .etype .extent);
+      };
+      filetype = record {
+        widths = tabulate (λ i. nth (v .etype .widths) (i % n)) (k * n);
+        displacements = tabulate (λ i. pos (nth (v .filetype .origins) (i / n) + nth (v .etype .displacements) (i % n))) (k * n);
+        extent = pos (v .filetype .extent);
+      };
+    }
+
+-- the default view: displacement 0, both types one entry of width 1 at 0 with extent 1
+unfoldable pub defaultView : View
+defaultView = record {
+  displacement = 0;
+  etype = record { entries = 1; widths = 1 ∷ replicate 7 0; displacements = replicate 8 0; extent = 1 };
+  filetype = record { instances = 1; origins = replicate 64 0; extent = 1 };
+}

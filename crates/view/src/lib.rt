@@ -1,0 +1,81 @@
+// A file view: displacement, etype and filetype, as MPI defines it, with its limits and the default view.
+// What a view means (document 01's rules, places, belonging and end of file) is in specs/.
+ghost use mathlib.Core.Path.{_≡_};
+ghost use Rattle.view.specs.Types.{defaultView};
+
+// An etype offset: a count of etypes from the beginning of the view. Offsets come in signed.
+pub struct Offset(pub i64);
+
+// A byte position in the file.
+pub struct BytePos(pub u64);
+
+// An etype: the first `entries` places of both lists, and the extent. Places past those mean nothing.
+pub struct Etype {
+    pub entries: u64,
+    pub widths: [u64; 8],
+    pub displacements: [u64; 8],
+    pub extent: u64,
+}
+
+// A filetype, built of the etype: instance i is the etype shifted by origin i. Places past `instances` mean nothing.
+pub struct Filetype {
+    pub instances: u64,
+    pub origins: [u64; 64],
+    pub extent: u64,
+}
+
+pub struct View {
+    pub displacement: u64,
+    pub etype: Etype,
+    pub filetype: Filetype,
+}
+
+// What the reverse lookup finds at a file byte: the pair of offset and index in the packed data, or none.
+pub enum Owner {
+    Pair(Offset, u64),
+    Nobody,
+}
+
+impl View {
+    // Document 01's table of limits.
+    pub const WIDTH_1: u64 = 1;
+    pub const WIDTH_2: u64 = 2;
+    pub const WIDTH_4: u64 = 4;
+    pub const WIDTH_8: u64 = 8;
+    pub const MIN_ENTRIES: u64 = 1;
+    pub const MAX_ETYPE_ENTRIES: u64 = 8;
+    pub const MAX_FILETYPE_ENTRIES: u64 = 256;
+    // A filetype has at most this many times the etype's entries.
+    pub const MAX_INSTANCES: u64 = 64;
+    pub const MIN_ENTRY_DISPLACEMENT: i64 = 0;
+    // An entry's displacement plus its width.
+    pub const MAX_ENTRY_END: u64 = 1048576;
+    pub const MIN_EXTENT: u64 = 1;
+    pub const MAX_EXTENT: u64 = 1048576;
+    pub const MIN_DISPLACEMENT: i64 = 0;
+    pub const MAX_DISPLACEMENT: u64 = 1099511627776;
+    pub const MIN_OFFSET: i64 = 0;
+    pub const MAX_OFFSET: u64 = 4294967295;
+
+    // The linear byte stream: displacement 0, both types one entry of width 1 at 0 with extent 1.
+    pub fn linear() -> View
+        ensures { λ r. ⌜ r ≡ defaultView ⌝ }
+    {
+        let mut widths = [0u64; 8];
+        widths[0] = View::WIDTH_1;
+        View {
+            displacement: 0,
+            etype: Etype {
+                entries: 1,
+                widths: widths,
+                displacements: [0u64; 8],
+                extent: 1,
+            },
+            filetype: Filetype {
+                instances: 1,
+                origins: [0u64; 64],
+                extent: 1,
+            },
+        }
+    }
+}
