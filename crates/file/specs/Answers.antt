@@ -63,8 +63,8 @@ giveBackAnswer h n =
 unfoldable pub widthsGiven : ℕ → PaperType → List ℕ → List ℕ
 widthsGiven n t l = granted n (front (widthAt t) (entries t) l) l
 
-unfoldable pub displacementsGiven : ℕ → PaperType → List ℕ → List ℕ
-displacementsGiven n t l = granted n (front (displacementAt t) (entries t) l) l
+unfoldable pub displacementsGiven : ℕ → PaperType → List ℤ → List ℤ
+displacementsGiven n t l = granted n (front (λ i. pos (displacementAt t i)) (entries t) l) l
 
 -- ---- place, reverse, end
 
@@ -79,25 +79,25 @@ reverseAnswer h b =
     record { refusal = n; count = 0; handle = h; owner = granted n (ownerOf (viewOf h) b) Nobody }
 
 unfoldable pub endAnswer : Handle → ℕ → FileRecord → Ended
-endAnswer h length r =
-    let n = endRefusal h length r in
+endAnswer h len r =
+    let n = endRefusal h len r in
     record { refusal = n; count = 0; handle = h; file = r; end = record { 0 = pos (granted n (endOfFile (viewOf h) (r .size)) 0) } }
 
 -- ---- seek: the pointer becomes the target
 
 unfoldable pub seekAnswer : Handle → ℕ → FileRecord → ℤ → ℕ → Moved
-seekAnswer h length r o whence =
-    let n = seekRefusal h length r o whence in
+seekAnswer h len r o whence =
+    let n = seekRefusal h len r o whence in
     record { refusal = n; count = 0; handle = granted n (withPointer h (whole (seekTarget h r o whence))) h; file = r }
 
 -- ---- a read of c at o, the buffer after it, and the same at the pointer, which it raises by the number moved
 
 unfoldable pub readCount : Handle → ℕ → FileRecord → ℤ → ℕ → ℕ → ℕ
-readCount h length r o c buffer = granted (readRefusal h length r o c buffer) (moved (viewOf h) (r .size) (whole o) c) 0
+readCount h len r o c buffer = granted (readRefusal h len r o c buffer) (moved (viewOf h) (r .size) (whole o) c) 0
 
 unfoldable pub readAtAnswer : Handle → ℕ → FileRecord → ℤ → ℕ → ℕ → Moved
-readAtAnswer h length r o c buffer =
-    record { refusal = readRefusal h length r o c buffer; count = readCount h length r o c buffer; handle = h; file = r }
+readAtAnswer h len r o c buffer =
+    record { refusal = readRefusal h len r o c buffer; count = readCount h len r o c buffer; handle = h; file = r }
 
 unfoldable pub readBuffer : Handle → List ℕ → FileRecord → ℤ → ℕ → List ℕ → List ℕ
 readBuffer h file r o c buffer =
@@ -106,15 +106,15 @@ readBuffer h file r o c buffer =
     buffer
 
 unfoldable pub readAnswer : Handle → ℕ → FileRecord → ℕ → ℕ → Moved
-readAnswer h length r c buffer =
-    let a = readAtAnswer h length r (pos (h .pointer)) c buffer in
+readAnswer h len r c buffer =
+    let a = readAtAnswer h len r (pos (h .pointer)) c buffer in
     record { refusal = a .refusal; count = a .count; handle = granted (a .refusal) (withPointer h (h .pointer + a .count)) h; file = r }
 
 -- ---- a write of c at o, the file after it, and the same at the pointer
 
 unfoldable pub writeAtAnswer : Handle → ℕ → FileRecord → ℤ → ℕ → ℕ → Moved
-writeAtAnswer h length r o c buffer =
-    let n = writeRefusal h length r o c buffer in
+writeAtAnswer h len r o c buffer =
+    let n = writeRefusal h len r o c buffer in
     record { refusal = n; count = granted n c 0; handle = h; file = granted n (withSize r (newSize (viewOf h) (r .size) (whole o) c)) r }
 
 unfoldable pub writtenFile : Handle → List ℕ → FileRecord → ℤ → ℕ → List ℕ → List ℕ
@@ -124,6 +124,6 @@ writtenFile h file r o c buffer =
     file
 
 unfoldable pub writeAnswer : Handle → ℕ → FileRecord → ℕ → ℕ → Moved
-writeAnswer h length r c buffer =
-    let a = writeAtAnswer h length r (pos (h .pointer)) c buffer in
-    record { refusal = a .refusal; count = a .count; handle = granted (a .refusal) (withPointer h (h .pointer + a .count)) h; file = a .record }
+writeAnswer h len r c buffer =
+    let a = writeAtAnswer h len r (pos (h .pointer)) c buffer in
+    record { refusal = a .refusal; count = a .count; handle = granted (a .refusal) (withPointer h (h .pointer + a .count)) h; file = a .file }

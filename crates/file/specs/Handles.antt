@@ -28,7 +28,7 @@ handleKept h = also (modeAllowed (h .mode)) (also (pointerAllowed (h .pointer)) 
 
 -- check 1 where it is: nor does the file, of this length, break its limits
 unfoldable pub fileKept : Handle → ℕ → FileRecord → Bool
-fileKept h length r = also (handleKept h) (fileAllowed length (r .size))
+fileKept h len r = also (handleKept h) (fileAllowed len (r .size))
 
 -- the handle with another pointer, and the one after a successful set: the new view, pointer 0
 unfoldable pub withPointer : Handle → ℕ → Handle

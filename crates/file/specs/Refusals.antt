@@ -41,7 +41,7 @@ reverseRefusal h = check (handleKept h) 1 (check (allowsWriting (h .mode)) 11 0)
 
 -- end: 1
 unfoldable pub endRefusal : Handle → ℕ → FileRecord → ℕ
-endRefusal h length r = check (fileKept h length r) 1 0
+endRefusal h len r = check (fileKept h len r) 1 0
 
 -- seek's target: whence 0 sets, 1 adds to the pointer, 2 adds to the end of file
 unfoldable pub seekTarget : Handle → FileRecord → ℤ → ℕ → ℤ
@@ -57,8 +57,8 @@ targetAllowed (negsuc p) = false
 
 -- seek: 1, 15, 12; the file is looked at for every whence
 unfoldable pub seekRefusal : Handle → ℕ → FileRecord → ℤ → ℕ → ℕ
-seekRefusal h length r o whence =
-    check (fileKept h length r) 1
+seekRefusal h len r o whence =
+    check (fileKept h len r) 1
     (check (leb whence 2) 15
     (check (targetAllowed (seekTarget h r o whence)) 12
     0))
@@ -70,8 +70,8 @@ accessAllowed (negsuc o) c = false
 
 -- read: 1, 11, 12, 13
 unfoldable pub readRefusal : Handle → ℕ → FileRecord → ℤ → ℕ → ℕ → ℕ
-readRefusal h length r o c buffer =
-    check (fileKept h length r) 1
+readRefusal h len r o c buffer =
+    check (fileKept h len r) 1
     (check (allowsReading (h .mode)) 11
     (check (accessAllowed o c) 12
     (check (leb (c * dataSize (viewOf h)) buffer) 13
@@ -79,10 +79,10 @@ readRefusal h length r o c buffer =
 
 -- write: 1, 11, 12, 13, 14; the highest byte lies below the file length
 unfoldable pub writeRefusal : Handle → ℕ → FileRecord → ℤ → ℕ → ℕ → ℕ
-writeRefusal h length r o c buffer =
-    check (fileKept h length r) 1
+writeRefusal h len r o c buffer =
+    check (fileKept h len r) 1
     (check (allowsWriting (h .mode)) 11
     (check (accessAllowed o c) 12
     (check (leb (c * dataSize (viewOf h)) buffer) 13
-    (check (leb (writeEnd (viewOf h) (whole o) c) length) 14
+    (check (leb (writeEnd (viewOf h) (whole o) c) len) 14
     0))))

@@ -36,45 +36,45 @@ tabulate-is f n d l e h = ext-getD d (tabulate f n) l (length-tabulate f n ∙ s
 
 -- ---- stores
 
-pub length-store : (place value : ℕ → ℕ) (n : ℕ) (l : List ℕ) → length (store place value n l) ≡ length l
+pub length-store : {A : Type 0} (place : ℕ → ℕ) (value : ℕ → A) (n : ℕ) (l : List A) → length (store place value n l) ≡ length l
 unfolding store
 length-store place value zero l = refl
 length-store place value (suc n) l = rw length-set (length-store place value n l)
 
-pub store-none : (place value : ℕ → ℕ) (l : List ℕ) → l ≡ store place value 0 l
+pub store-none : {A : Type 0} (place : ℕ → ℕ) (value : ℕ → A) (l : List A) → l ≡ store place value 0 l
 unfolding store
 store-none place value l = refl
 
 -- one store more, as a loop makes it
-pub store-more : (place value : ℕ → ℕ) (n p x : ℕ) (l₀ l : List ℕ) → l ≡ store place value n l₀ → p ≡ place n → x ≡ value n → set l p x ≡ store place value (n + 1) l₀
+pub store-more : {A : Type 0} (place : ℕ → ℕ) (value : ℕ → A) (n p : ℕ) (x : A) (l₀ l : List A) → l ≡ store place value n l₀ → p ≡ place n → x ≡ value n → set l p x ≡ store place value (n + 1) l₀
 unfolding store
 store-more place value n p x l₀ l e ep ex = rw (add-one n) (cc)
 
-pub store-end : (place value : ℕ → ℕ) (i n : ℕ) (l₀ l : List ℕ) → l ≡ store place value i l₀ → i ≤ n → n ≤ i → l ≡ store place value n l₀
+pub store-end : {A : Type 0} (place : ℕ → ℕ) (value : ℕ → A) (i n : ℕ) (l₀ l : List A) → l ≡ store place value i l₀ → i ≤ n → n ≤ i → l ≡ store place value n l₀
 store-end place value i n l₀ l e a b = let h : i ≡ n = omega arith in cc
 
 pub ruleset storing = (needs, store-none, store-more, store-end)
 
 -- a place that no store goes to
-pub store-other : (place value : ℕ → ℕ) (n : ℕ) (l : List ℕ) (b : ℕ) → ((k : ℕ) → k < n → b ≢ place k) → getD (store place value n l) b 0 ≡ getD l b 0
+pub store-other : {A : Type 0} (place : ℕ → ℕ) (value : ℕ → A) (n : ℕ) (l : List A) (d : A) (b : ℕ) → ((k : ℕ) → k < n → b ≢ place k) → getD (store place value n l) b d ≡ getD l b d
 unfolding store
-store-other place value zero l b h = refl
-store-other place value (suc n) l b h =
-    getD-set-other (store place value n l) (place n) b (value n) 0 (h n (omega arith)) ∙ store-other place value n l b (λ k q. h k (omega arith))
+store-other place value zero l d b h = refl
+store-other place value (suc n) l d b h =
+    getD-set-other (store place value n l) (place n) b (value n) d (h n (omega arith)) ∙ store-other place value n l d b (λ k q. h k (omega arith))
 
 -- the place of store j, to which no later store goes
-pub store-at : (place value : ℕ → ℕ) (n : ℕ) (l : List ℕ) (j : ℕ) → j < n → place j < length l → ((k : ℕ) → k < n → j < k → place j ≢ place k) → getD (store place value n l) (place j) 0 ≡ value j
+pub store-at : {A : Type 0} (place : ℕ → ℕ) (value : ℕ → A) (n : ℕ) (l : List A) (d : A) (j : ℕ) → j < n → place j < length l → ((k : ℕ) → k < n → j < k → place j ≢ place k) → getD (store place value n l) (place j) d ≡ value j
 unfolding store
-store-at place value zero l j q f h = absurd (omega arith)
-store-at place value (suc n) l j q f h = ⊎-elim last (λ b. before b (store-at place value n l j b f (λ k x y. h k (omega arith) y))) (eq-or-lt-of-le {n = j} {m = n} (omega arith))
+store-at place value zero l d j q f h = absurd (omega arith)
+store-at place value (suc n) l d j q f h = ⊎-elim last (λ b. before b (store-at place value n l d j b f (λ k x y. h k (omega arith) y))) (eq-or-lt-of-le {n = j} {m = n} (omega arith))
   where
-    last : j ≡ n → getD (set (store place value n l) (place n) (value n)) (place j) 0 ≡ value j
-    last e = rw e (getD-set-same (store place value n l) (place n) (value n) 0 (rw (length-store place value n l) (subst (λ (x : ℕ). place x < length l) e f)))
+    last : j ≡ n → getD (set (store place value n l) (place n) (value n)) (place j) d ≡ value j
+    last e = rw e (getD-set-same (store place value n l) (place n) (value n) d (rw (length-store place value n l) (subst (λ (x : ℕ). place x < length l) e f)))
 
-    before : j < n → getD (store place value n l) (place j) 0 ≡ value j → getD (set (store place value n l) (place n) (value n)) (place j) 0 ≡ value j
-    before b e = getD-set-other (store place value n l) (place n) (place j) (value n) 0 (h n (omega arith) b) ∙ e
+    before : j < n → getD (store place value n l) (place j) d ≡ value j → getD (set (store place value n l) (place n) (value n)) (place j) d ≡ value j
+    before b e = getD-set-other (store place value n l) (place n) (place j) (value n) d (h n (omega arith) b) ∙ e
 
-pub store-same : (place value place' value' : ℕ → ℕ) (n : ℕ) (l : List ℕ) → ((k : ℕ) → k < n → place k ≡ place' k) → ((k : ℕ) → k < n → value k ≡ value' k) → store place value n l ≡ store place' value' n l
+pub store-same : {A : Type 0} (place : ℕ → ℕ) (value : ℕ → A) (place' : ℕ → ℕ) (value' : ℕ → A) (n : ℕ) (l : List A) → ((k : ℕ) → k < n → place k ≡ place' k) → ((k : ℕ) → k < n → value k ≡ value' k) → store place value n l ≡ store place' value' n l
 unfolding store
 store-same place value place' value' zero l hp hv = refl
 store-same place value place' value' (suc n) l hp hv =
@@ -84,8 +84,8 @@ store-same place value place' value' (suc n) l hp hv =
     cc
 
 -- an element of the front, and one behind it
-pub front-at : (value : ℕ → ℕ) (n : ℕ) (l : List ℕ) (i : ℕ) → i < n → i < length l → getD (front value n l) i 0 ≡ value i
-front-at value n l i a b = store-at (λ k. k) value n l i a b (λ k x y. λ e. omega arith)
+pub front-at : {A : Type 0} (value : ℕ → A) (n : ℕ) (l : List A) (d : A) (i : ℕ) → i < n → i < length l → getD (front value n l) i d ≡ value i
+front-at value n l d i a b = store-at (λ k. k) value n l d i a b (λ k x y. λ e. omega arith)
 
-pub front-past : (value : ℕ → ℕ) (n : ℕ) (l : List ℕ) (i : ℕ) → n ≤ i → getD (front value n l) i 0 ≡ getD l i 0
-front-past value n l i a = store-other (λ k. k) value n l i (λ k x. λ e. omega arith)
+pub front-past : {A : Type 0} (value : ℕ → A) (n : ℕ) (l : List A) (d : A) (i : ℕ) → n ≤ i → getD (front value n l) i d ≡ getD l i d
+front-past value n l d i a = store-other (λ k. k) value n l d i (λ k x. λ e. omega arith)

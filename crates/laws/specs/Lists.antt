@@ -13,10 +13,10 @@ tabulate f zero = []
 tabulate f (suc n) = f 0 ∷ tabulate (λ i. f (suc i)) n
 
 -- value i stored at place i, for each i below n in turn
-unfoldable pub store : (ℕ → ℕ) → (ℕ → ℕ) → ℕ → List ℕ → List ℕ
+unfoldable pub store : {A : Type 0} → (ℕ → ℕ) → (ℕ → A) → ℕ → List A → List A
 store place value zero l = l
 store place value (suc n) l = set (store place value n l) (place n) (value n)
 
 -- value i stored at index i, for each i below n
-abbrev pub front : (ℕ → ℕ) → ℕ → List ℕ → List ℕ
+abbrev pub front : {A : Type 0} → (ℕ → A) → ℕ → List A → List A
 front value n l = store (λ i. i) value n l

@@ -43,4 +43,4 @@ pointerAllowed p = leb p 4294967296
 
 -- file length in bytes: 0 to 2^40, the size at most the length
 unfoldable pub fileAllowed : ℕ → ℕ → Bool
-fileAllowed length size = also (leb length 1099511627776) (leb size length)
+fileAllowed len size = also (leb len 1099511627776) (leb size len)
