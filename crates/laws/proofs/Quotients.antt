@@ -23,3 +23,17 @@ runs-below k n i p l = div-lt-iff-lt-mul p .1 l
 
 pub div-mono : (n i k : ℕ) → 0 < n → i ≤ k → i / n ≤ k / n
 div-mono n i k p h = le-div-iff-mul-le p .1 (omega (arith, div-mul-le-self i n))
+
+-- quotient and remainder of the next number: inside a run, and over its end
+pub next-in : (n x : ℕ) → x % n + 1 < n → ((x + 1) / n ≡ x / n) × ((x + 1) % n ≡ x % n + 1)
+next-in n x h =
+    let d = div-add-mod' x n in
+    let e : x + 1 ≡ x / n * n + (x % n + 1) = omega arith in
+    (ap (λ (z : ℕ). z / n) e ∙ run-div n (x / n) (x % n + 1) h, ap (λ (z : ℕ). z % n) e ∙ run-mod n (x / n) (x % n + 1) h)
+
+pub next-over : (n x : ℕ) → 0 < n → x % n + 1 ≡ n → ((x + 1) / n ≡ x / n + 1) × ((x + 1) % n ≡ 0)
+next-over n x p h =
+    let d = div-add-mod' x n in
+    let t = times-more (x / n) n in
+    let e : x + 1 ≡ (x / n + 1) * n + 0 = omega arith in
+    (ap (λ (z : ℕ). z / n) e ∙ run-div n (x / n + 1) 0 p, ap (λ (z : ℕ). z % n) e ∙ run-mod n (x / n + 1) 0 p)

@@ -1,2 +1,4 @@
 pub mod Paper
 pub mod Accepted
+pub mod Packing
+pub mod Injective
