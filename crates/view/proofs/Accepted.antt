@@ -168,7 +168,7 @@ pub record Facts (v : PaperView) : Type 0 where
   pub group-width : (g e : ℕ) → g < instances v → e < entries (v .etype) → widthAt (v .filetype) (g * entries (v .etype) + e) ≡ widthAt (v .etype) e
   pub group-displacement : (g e : ℕ) → g < instances v → e < entries (v .etype) → displacementAt (v .filetype) (g * entries (v .etype) + e) ≡ displacementAt (v .etype) e + origin v g
 
-built-entry : (v : PaperView) → built v ≡ true → (i : ℕ) → i < entries (v .filetype) → entryBuilt v i ≡ true
+pub built-entry : (v : PaperView) → built v ≡ true → (i : ℕ) → i < entries (v .filetype) → entryBuilt v i ≡ true
 unfolding built
 built-entry v h i l = all-at (entryBuilt v) (entries (v .filetype)) (also-inv _ _ h .1) i l
 

@@ -2,3 +2,6 @@ pub mod Paper
 pub mod Accepted
 pub mod Packing
 pub mod Injective
+pub mod Ends
+pub mod Owning
+pub mod Holding

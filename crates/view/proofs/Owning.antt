@@ -1,0 +1,167 @@
+-- The reverse lookup: what it finds is the pair that the byte belongs to, or there is none; and nothing else is.
+use Prim.Native.Nat.{ℕ, zero, suc, _+_, _-_, _*_, _/_, _%_, _≤_, _<_}
+use mathlib.Core.Bool.{Bool, true, false, cond, not}
+use mathlib.Core.Logic.{⊎-elim}
+use mathlib.Core.Path.{_≡_, refl, sym, ap, _∙_}
+use native.Mathlib.Nat.{div-add-mod', mod-lt, eq-or-lt-of-le}
+use native.Mathlib.Omega.{arith}
+use borrow.Author.Tests.{lt-ltb, le-ltb, le-leb, ltb-true, leb-true, not-false, not-true}
+use lib.Dec.{ltb, leb}
+use lib.IntN.{ℤ, pos, natAbs}
+use Rattle.laws.specs.Search.{first}
+use Rattle.laws.proofs.Booleans.{also-inv, also-true, lt-or-le, not-both}
+use Rattle.laws.proofs.Searching.{first-le, first-keeps, first-breaks}
+use Rattle.laws.proofs.Quotients.{run-div, run-mod, run-below, runs-below}
+use Rattle.view.specs.declared.Offset.{Offset}
+use Rattle.view.specs.declared.Owner.{Owner}
+use Rattle.view.specs.declared.Owner.the-variants.{Pair, Nobody}
+use Rattle.view.specs.Types.{PaperView, entries, widthAt, displacementAt, extentOf, whole}
+use Rattle.view.specs.Rules.{instances, origin, accepted, allowsWriting}
+use Rattle.view.specs.Places.{place, packedBefore, dataSize, entryOf, dataAt, byteOf, Distinct, Narrow}
+use Rattle.view.specs.Owners.{Belongs, Answers, entryStart, offsetIn, indexIn, hits, hitEntry, ownerOf}
+use Rattle.view.proofs.Accepted.{Facts, facts, accepted-kept, instances-some}
+use Rattle.view.proofs.Packing.{entry-below, entry-ends, entry-begins, data-run, packed-part}
+use Rattle.view.proofs.Injective.{distinct, narrow}
+
+-- a byte belongs to at most one pair
+pub belongs-one : (v : PaperView) (b x y j k : ℕ) → Distinct v → Belongs v b x j → Belongs v b y k → (x ≡ y) × (j ≡ k)
+belongs-one v b x y j k d p q = d .same x y j k (p .index) (q .index) (p .lies ∙ sym (q .lies))
+
+module _ (v : PaperView) (f : Facts v) (b : ℕ) where
+  -- a byte that lies in entry i belongs to the pair that is named
+  module _ (i : ℕ) (l : i < entries (v .filetype)) (h : hits v b i ≡ true) where
+    group : i / entries (v .etype) < instances v
+    group = runs-below (instances v) (entries (v .etype)) i (f .some) (omega (arith, f .groups))
+
+    entry : i % entries (v .etype) < entries (v .etype)
+    entry = mod-lt i {m = entries (v .etype)} (f .some)
+
+    whole-entry : i / entries (v .etype) * entries (v .etype) + i % entries (v .etype) ≡ i
+    whole-entry = div-add-mod' i (entries (v .etype))
+
+    starts : entryStart v i ≤ b
+    unfolding hits
+    starts = leb-true _ _ (also-inv _ _ h .0)
+
+    inside : (b - entryStart v i) % extentOf (v .filetype) < widthAt (v .etype) (i % entries (v .etype))
+    unfolding hits
+    inside =
+        let w = f .group-width (i / entries (v .etype)) (i % entries (v .etype)) group entry in
+        let u : (b - entryStart v i) % extentOf (v .filetype) < widthAt (v .filetype) i = ltb-true _ _ (also-inv _ _ (also-inv _ _ h .1) .0) in
+        omega (arith, w, ap (widthAt (v .filetype)) whole-entry)
+
+    allowed : offsetIn v b i < 4294967296
+    unfolding hits
+    allowed = ltb-true _ _ (also-inv _ _ (also-inv _ _ h .1) .1)
+
+    found-lies : byteOf v (offsetIn v b i) (indexIn v b i) ≡ b
+    unfolding byteOf place offsetIn indexIn entryStart
+    found-lies =
+        let t = (b - (whole (v .displacement) + displacementAt (v .filetype) i)) / extentOf (v .filetype) in
+        let d = data-run (v .etype) (i % entries (v .etype)) ((b - (whole (v .displacement) + displacementAt (v .filetype) i)) % extentOf (v .filetype)) entry inside in
+        let g = f .group-displacement (i / entries (v .etype)) (i % entries (v .etype)) group entry in
+        let m = div-add-mod' (b - (whole (v .displacement) + displacementAt (v .filetype) i)) (extentOf (v .filetype)) in
+        rw (run-div (instances v) t (i / entries (v .etype)) group, run-mod (instances v) t (i / entries (v .etype)) group, d)
+        (omega (arith, starts, ap (displacementAt (v .filetype)) whole-entry))
+
+    found-index : indexIn v b i < dataSize v
+    unfolding indexIn dataSize
+    found-index = omega (arith, inside, packed-part (v .etype) (i % entries (v .etype)) (entries (v .etype)) entry)
+
+    hit-belongs : Belongs v b (offsetIn v b i) (indexIn v b i)
+    hit-belongs = record { offset = allowed; index = found-index; lies = found-lies }
+
+  -- a byte that belongs to a pair lies in an entry that is tried
+  module _ (n : Narrow v) (x j : ℕ) (p : Belongs v b x j) where
+    in-etype : entryOf (v .etype) j < entries (v .etype)
+    unfolding dataSize
+    in-etype = entry-below (v .etype) j (p .index)
+
+    in-group : x % instances v < instances v
+    in-group = mod-lt x {m = instances v} (instances-some v f)
+
+    tried : ℕ
+    tried = x % instances v * entries (v .etype) + entryOf (v .etype) j
+
+    tried-below : tried < entries (v .filetype)
+    unfolding tried
+    tried-below = omega (arith, run-below (instances v) (entries (v .etype)) (x % instances v) (entryOf (v .etype) j) in-group in-etype, f .groups)
+
+    rest : ℕ
+    rest = j - packedBefore (v .etype) (entryOf (v .etype) j)
+
+    rest-inside : rest < widthAt (v .etype) (entryOf (v .etype) j)
+    unfolding rest dataSize
+    rest-inside = omega (arith, entry-ends (v .etype) j (p .index), entry-begins (v .etype) j (p .index))
+
+    rest-below : rest < extentOf (v .filetype)
+    rest-below = omega (arith, rest-inside, n .width (entryOf (v .etype) j) in-etype)
+
+    distance : b - entryStart v tried ≡ x / instances v * extentOf (v .filetype) + rest
+    unfolding tried rest entryStart byteOf place dataAt
+    distance = omega (arith, p .lies, f .group-displacement (x % instances v) (entryOf (v .etype) j) in-group in-etype)
+
+    starts-before : entryStart v tried ≤ b
+    unfolding tried entryStart byteOf place dataAt
+    starts-before = omega (arith, p .lies, f .group-displacement (x % instances v) (entryOf (v .etype) j) in-group in-etype)
+
+    remainder : (b - entryStart v tried) % extentOf (v .filetype) < widthAt (v .filetype) tried
+    unfolding tried
+    remainder = rw (distance, run-mod (extentOf (v .filetype)) (x / instances v) rest rest-below, f .group-width (x % instances v) (entryOf (v .etype) j) in-group in-etype) rest-inside
+
+    same-offset : offsetIn v b tried ≡ x
+    unfolding offsetIn tried
+    same-offset =
+        rw (distance, run-div (extentOf (v .filetype)) (x / instances v) rest rest-below, run-div (entries (v .etype)) (x % instances v) (entryOf (v .etype) j) in-etype)
+        (div-add-mod' x (instances v))
+
+    belongs-hit : hits v b tried ≡ true
+    unfolding hits
+    belongs-hit =
+        let q : offsetIn v b tried < 4294967296 = rw same-offset (p .offset) in
+        also-true (le-leb _ _ starts-before) (also-true (lt-ltb _ _ remainder) (lt-ltb _ _ q))
+
+    -- so the search ends before the last entry
+    search-ends : hitEntry v b < entries (v .filetype)
+    unfolding hitEntry
+    search-ends = ⊎-elim (λ e. absurd (missed e)) (λ q. q) (eq-or-lt-of-le (first-le _ (entries (v .filetype))))
+      where
+        missed : first (λ i. not (hits v b i)) (entries (v .filetype)) ≡ entries (v .filetype) → ⊥
+        missed e =
+            let u : tried < first (λ i. not (hits v b i)) (entries (v .filetype)) = omega (arith, tried-below) in
+            not-both belongs-hit (not-true _ (first-keeps (λ i. not (hits v b i)) (entries (v .filetype)) tried u))
+
+  found-hits : hitEntry v b < entries (v .filetype) → hits v b (hitEntry v b) ≡ true
+  unfolding hitEntry
+  found-hits l = not-false _ (first-breaks (λ i. not (hits v b i)) (entries (v .filetype)) l)
+
+  answers : Narrow v → Answers v b (ownerOf v b)
+  unfolding ownerOf Answers
+  answers n = ⊎-elim found nobody (lt-or-le (hitEntry v b) (entries (v .filetype)))
+    where
+      found : hitEntry v b < entries (v .filetype) → Answers v b (ownerOf v b)
+      found l = rw (lt-ltb (hitEntry v b) (entries (v .filetype)) l) (offsetIn v b (hitEntry v b), (refl, hit-belongs (hitEntry v b) l (found-hits l)))
+
+      nobody : entries (v .filetype) ≤ hitEntry v b → Answers v b (ownerOf v b)
+      nobody l = rw (le-ltb (hitEntry v b) (entries (v .filetype)) l) (λ x j p. omega (arith, search-ends n x j p))
+
+-- two answers for one byte are the same
+one-answer : (v : PaperView) (b : ℕ) → Distinct v → (o p : Owner) → Answers v b o → Answers v b p → o ≡ p
+unfolding Answers
+one-answer v b d (Pair o j) (Pair p k) a c =
+    let s = belongs-one v b (a .0) (c .0) j k d (a .1 .1) (c .1 .1) in
+    let e : o .0 ≡ p .0 = a .1 .0 ∙ ap pos (s .0) ∙ sym (c .1 .0) in
+    let g : j ≡ k = s .1 in
+    λ i. Pair (record { 0 = e i }) (g i)
+one-answer v b d (Pair o j) Nobody a c = absurd (c (a .0) j (a .1 .1))
+one-answer v b d Nobody (Pair p k) a c = absurd (a (c .0) k (c .1 .1))
+one-answer v b d Nobody Nobody a c = refl
+
+-- ---- of a view that is accepted for writing
+
+module _ (mode : ℕ) (v : PaperView) (h : accepted mode v ≡ true) (w : allowsWriting mode ≡ true) (b : ℕ) where
+  pub owner-is : Answers v b (ownerOf v b)
+  owner-is = answers v (facts v (accepted-kept mode v h)) b (narrow mode v h w)
+
+  pub owner-only : (o : Owner) → Answers v b o → o ≡ ownerOf v b
+  owner-only o a = one-answer v b (distinct mode v h w) o (ownerOf v b) a owner-is
