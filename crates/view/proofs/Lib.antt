@@ -5,3 +5,4 @@ pub mod Injective
 pub mod Ends
 pub mod Owning
 pub mod Holding
+pub mod Signs

@@ -1,7 +1,9 @@
 // A file view: displacement, etype and filetype, as MPI defines it, with its limits and the default view.
 // What a view means (document 01's rules, places, belonging and end of file) is in specs/.
 ghost use mathlib.Core.Path.{_≡_};
-ghost use Rattle.view.specs.Types.{defaultView};
+ghost use Prim.Native.Nat.{_<_};
+ghost use lib.IntN.{pos};
+ghost use Rattle.view.specs.Types.{defaultView, whole};
 
 // An etype offset: a count of etypes from the beginning of the view. Offsets come in signed.
 pub struct Offset(pub i64);
@@ -78,4 +80,19 @@ impl View {
             },
         }
     }
+}
+
+// A signed number as a natural one, and 0 for a negative one, of which no rule asks it. For our own crates.
+pub fn natural(x: i64) -> u64
+    ensures { λ r. ⌜ r ≡ whole x ⌝ }
+{
+    if x < 0 { 0 } else { x as u64 }
+}
+
+// An etype offset of a number that a signed one holds. For our own crates.
+pub fn to_offset(n: u64) -> Offset
+    requires { ⌜ n < 9223372036854775808 ⌝ }
+    ensures { λ r. ⌜ r .0 ≡ pos n ⌝ }
+{
+    Offset(n as i64)
 }

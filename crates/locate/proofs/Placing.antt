@@ -1,0 +1,156 @@
+-- No step on the way to a place or to an end of file wraps, and what is computed on the record is what the definitions say of the view on paper.
+use Prim.Native.Nat.{ℕ, suc, _+_, _-_, _*_, _/_, _%_, _≤_, _<_, max}
+use mathlib.Core.Bool.{true, cond}
+use mathlib.Core.Logic.{⊎-elim}
+use mathlib.Core.Path.{_≡_, refl, sym, ap, _∙_}
+use native.Mathlib.Nat.{mul-le-mul, div-le-self, mod-lt, lt-of-lt-of-le}
+use native.Mathlib.Omega.{arith}
+use borrow.Author.Needs.{needs}
+use borrow.Author.Tests.{leb-true, lt-ltb, le-ltb}
+use lib.IntN.{ℤ, pos, negsuc}
+use lib.ListN.{length, getD}
+use mir.Syntax.{w64}
+use mir.Val.{Fits, toZ, ofZ}
+use mir.Facts.{toZ-ofZ}
+use Rattle.laws.specs.Lists.{nth}
+use Rattle.laws.specs.Search.{greatest}
+use Rattle.laws.proofs.Sums.{Highest, highest-none, highest-more, highest-end, greatest-least, greatest-same}
+use Rattle.laws.proofs.Booleans.{not-both, lt-or-le}
+use Rattle.view.specs.declared.View.{View}
+use Rattle.view.specs.Limits.{offsetAllowed}
+use Rattle.view.specs.Types.{PaperView, paper, entries, extentOf, whole, displacementAt}
+use Rattle.view.specs.Rules.{instances, origin, Kept}
+use Rattle.view.specs.Places.{place}
+use Rattle.view.specs.End.{endFrom, endOfFile}
+use Rattle.view.proofs.Paper.{paper-entries, paper-instances, paper-origin, paper-place, paper-file-extent, paper-start}
+use Rattle.view.proofs.Accepted.{Facts, facts, instances-some, instances-few, origin-small}
+
+offset-small : (z : ℤ) → offsetAllowed z ≡ true → whole z ≤ 4294967295
+unfolding offsetAllowed whole
+offset-small (pos o) h = leb-true o _ h
+offset-small (negsuc o) h = not-both h refl
+
+-- ---- the end of one instance
+
+module _ (size start f n i : ℕ) (hs : size ≤ 1099511627776) (hn : n ≤ 64) (hi : i < n) where
+  before : (size - start - 1) / f * n ≤ 70368744177664
+  before = let q = div-le-self (size - start - 1) f in let a : (size - start - 1) / f ≤ 1099511627776 = omega arith in mul-le-mul a hn
+
+  pub before-fits : Fits w64 ((size - start - 1) / f * n)
+  before-fits = record { fits = omega (arith, before) }
+
+  pub last-fits : Fits w64 ((size - start - 1) / f * n + i)
+  last-fits = record { fits = omega (arith, before) }
+
+  pub end-fits : Fits w64 ((size - start - 1) / f * n + i + 1)
+  end-fits = record { fits = omega (arith, before) }
+
+-- the end of instance i, on the record
+unfoldable pub endOn : View → ℕ → ℕ → ℕ
+endOn v size i = endFrom (v .displacement + nth (v .filetype .origins) i) size (v .filetype .extent) (v .filetype .instances) i
+
+pub end-on : (v : View) (size i e : ℕ) → e ≡ endFrom (v .displacement + getD (v .filetype .origins) i 0) size (v .filetype .extent) (v .filetype .instances) i → e ≡ endOn v size i
+unfolding endOn
+end-on v size i e h = h
+
+-- the machine's reading of an offset's bits is the offset
+offset-read : (z : ℤ) → offsetAllowed z ≡ true → toZ w64 (ofZ w64 z) ≡ z
+unfolding offsetAllowed
+offset-read (pos o) h = toZ-ofZ {w = w64} {z = pos o} (record { sfits = omega (arith, leb-true o 4294967295 h) })
+offset-read (negsuc o) h = not-both h refl
+
+-- an index into the origins, scaled by their width
+pub origin-scaled : (i : ℕ) → i < 64 → Fits w64 (i * 8)
+origin-scaled i l = record { fits = omega arith }
+
+-- ---- what the record of a kept view holds
+
+module _ (v : View) (k : Kept (paper v)) where
+  kept : Facts (paper v)
+  kept = facts (paper v) k
+
+  some-entry : 0 < v .etype .entries
+  some-entry = omega (arith, paper-entries v, kept .some)
+
+  pub record-some : 0 < v .filetype .instances
+  record-some = omega (arith, paper-instances v some-entry, instances-some (paper v) kept)
+
+  pub record-few : v .filetype .instances ≤ 64
+  record-few = omega (arith, paper-instances v some-entry, instances-few (paper v) kept)
+
+  pub origin-below : (i : ℕ) → i < v .filetype .instances → i < 64
+  origin-below i l = omega (arith, record-few)
+
+  pub record-extent : 0 < v .filetype .extent
+  record-extent = omega (arith, paper-file-extent v, kept .file-extent .0)
+
+  extent-small : v .filetype .extent ≤ 1048576
+  extent-small = omega (arith, paper-file-extent v, kept .file-extent .1)
+
+  start-small : v .displacement ≤ 1099511627776
+  start-small = omega (arith, paper-start v, kept .start)
+
+  record-origin : (i : ℕ) → i < v .filetype .instances → nth (v .filetype .origins) i < 1048576
+  record-origin i l = omega (arith, paper-origin v some-entry i l, origin-small (paper v) kept i (omega (arith, paper-instances v some-entry)))
+
+  -- ---- the place of an offset
+
+  module _ (o : ℤ) (ok : offsetAllowed o ≡ true) where
+    tiles : whole o / v .filetype .instances * v .filetype .extent ≤ 4503599626321920
+    tiles =
+        let q = div-le-self (whole o) (v .filetype .instances) in
+        let a : whole o / v .filetype .instances ≤ 4294967295 = omega (arith, offset-small o ok) in
+        mul-le-mul a extent-small
+
+    instance-below : whole o % v .filetype .instances < v .filetype .instances
+    instance-below = mod-lt (whole o) {m = v .filetype .instances} record-some
+
+    -- `at` is the offset as the machine reads it
+    module _ (at : ℕ) (read : at ≡ whole (toZ w64 (ofZ w64 o))) where
+      e : at ≡ whole o
+      e = read ∙ ap whole (offset-read o ok)
+
+      pub step-fits : Fits w64 (at / v .filetype .instances * v .filetype .extent)
+      step-fits = rw e (record { fits = omega (arith, tiles) })
+
+      pub begin-fits : Fits w64 (v .displacement + at / v .filetype .instances * v .filetype .extent)
+      begin-fits = rw e (record { fits = omega (arith, tiles, start-small) })
+
+      pub place-fits : Fits w64 (v .displacement + at / v .filetype .instances * v .filetype .extent + getD (v .filetype .origins) (at % v .filetype .instances) 0)
+      place-fits = rw e (record { fits = omega (arith, tiles, start-small, record-origin (whole o % v .filetype .instances) instance-below) })
+
+      pub instance-in : at % v .filetype .instances < 64
+      instance-in = rw e (omega (arith, instance-below, record-few))
+
+      pub place-is : v .displacement + at / v .filetype .instances * v .filetype .extent + getD (v .filetype .origins) (at % v .filetype .instances) 0 ≡ place (paper v) (whole o)
+      place-is = rw e (sym (paper-place v some-entry record-some (whole o)))
+
+  -- ---- end of file
+
+  pub start-fits : (i : ℕ) → i < v .filetype .instances → Fits w64 (v .displacement + getD (v .filetype .origins) i 0)
+  start-fits i l = record { fits = omega (arith, record-origin i l, start-small) }
+
+  end-is : (size : ℕ) → greatest (endOn v size) (v .filetype .instances) ≡ endOfFile (paper v) size
+  unfolding endOfFile endOn
+  end-is size =
+      rw (paper-instances v some-entry, paper-start v, paper-file-extent v)
+      (greatest-same _ _ (v .filetype .instances) (λ i l. rw (paper-origin v some-entry i l)))
+
+  pub end-found : (size i e : ℕ) (z : ℤ) → Highest (endOn v size) i (v .filetype .instances) e → v .filetype .instances ≤ i → z ≡ pos e → z ≡ pos (endOfFile (paper v) size)
+  end-found size i e z h l q = q ∙ ap pos (highest-end (endOn v size) i (v .filetype .instances) e h l ∙ end-is size)
+
+  end-small : (size i : ℕ) → size ≤ 1099511627776 → i < v .filetype .instances → endOn v size i ≤ 70368744177729
+  unfolding endOn endFrom
+  end-small size i hs l = ⊎-elim
+      (λ q. rw (lt-ltb (v .displacement + nth (v .filetype .origins) i) size q) (omega (arith, before size (v .displacement + nth (v .filetype .origins) i) (v .filetype .extent) (v .filetype .instances) i hs record-few l, record-few)))
+      (λ q. rw (le-ltb (v .displacement + nth (v .filetype .origins) i) size q) (omega arith))
+      (lt-or-le (v .displacement + nth (v .filetype .origins) i) size)
+
+  pub end-signed : (size i e : ℕ) → size ≤ 1099511627776 → Highest (endOn v size) i (v .filetype .instances) e → e < 9223372036854775808
+  end-signed size i e hs h =
+      let b = greatest-least (endOn v size) i 70368744177729 (λ k l. end-small size k hs (omega (arith, h .reached))) in
+      omega (arith, h .is)
+
+pub ruleset placing = (needs, record-some, step-fits, begin-fits, place-fits, instance-in, origin-scaled, place-is)
+
+pub ruleset ending = (needs, origin-below, origin-scaled, highest-none, highest-more, end-on, record-few, record-extent, start-fits, end-found, end-signed)

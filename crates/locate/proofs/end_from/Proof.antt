@@ -1,0 +1,38 @@
+-- `end_from` follows the definition along its one test. Assumes nothing.
+use Rattle.laws.proofs.Booleans.{tests, cond-yes, cond-no}
+use Rattle.locate.proofs.Placing.{before-fits, last-fits, end-fits}
+use Rattle.view.specs.End.{endFrom}
+use borrow.Author.Needs.{needs}
+use Rattle.locate.proofs.end_from.Statement.{statement}
+use Rattle.locate.proofs.end_from.Tie as tie
+
+sub-room : tie.Need-sub-room
+sub-room c = search needs
+
+sub-room-2 : tie.Need-sub-room-2
+sub-room-2 c = search needs
+
+div-tile : tie.Need-div-tile
+div-tile c = search needs
+
+mul-before : tie.Need-mul-before
+mul-before c = search (tests, cond-yes, cond-no, before-fits, last-fits, end-fits)
+
+add-last : tie.Need-add-last
+add-last c = search (tests, cond-yes, cond-no, before-fits, last-fits, end-fits)
+
+add-result : tie.Need-add-result
+add-result c = search (tests, cond-yes, cond-no, before-fits, last-fits, end-fits)
+
+returns : tie.Need-returns
+unfolding endFrom
+returns c = search (tests, cond-yes, cond-no, before-fits, last-fits, end-fits)
+
+returns-2 : tie.Need-returns-2
+unfolding endFrom
+returns-2 c = search (tests, cond-yes, cond-no, before-fits, last-fits, end-fits)
+
+pub end-from-spec : {M : Type 1} → statement M
+end-from-spec =
+    tie.close
+    (tie.spec sub-room sub-room-2 div-tile mul-before add-last add-result returns returns-2)

@@ -1,0 +1,72 @@
+// Where things lie in a view: the place of an offset, and end of file.
+// These functions are pub for our own crates: a handle's calls test handle, offset and file first, and meet what is required here.
+ghost use mathlib.Core.Bool.{true};
+ghost use mathlib.Core.Path.{_≡_};
+ghost use Prim.Native.Nat.{_≤_, _<_, max};
+ghost use lib.IntN.{pos};
+ghost use Rattle.view.specs.Limits.{offsetAllowed};
+ghost use Rattle.view.specs.Types.{paper, whole};
+ghost use Rattle.view.specs.Rules.{Kept};
+ghost use Rattle.view.specs.Places.{place};
+ghost use Rattle.view.specs.End.{endFrom, endOfFile};
+use view::BytePos;
+use view::Offset;
+use view::View;
+
+// The byte at which the etype at offset `o` begins: tile and instance by one division.
+pub fn place_of(v: View, o: Offset) -> BytePos
+    requires { ⌜ Kept (paper v) × (offsetAllowed (o .0) ≡ true) ⌝ }
+    ensures { λ r. ⌜ r .0 ≡ place (paper v) (whole (o .0)) ⌝ }
+{
+    let at = view::natural(o.0);
+    let filetype = v.filetype;
+    let instances = filetype.instances;
+    let origins = filetype.origins;
+    let tile = at / instances;
+    let instance = (at % instances) as usize;
+    let step = tile * filetype.extent;
+    let begin = v.displacement + step;
+    BytePos(begin + origins[instance])
+}
+
+fn larger(a: u64, b: u64) -> u64
+    ensures { λ r. ⌜ r ≡ max a b ⌝ }
+{
+    if a < b { b } else { a }
+}
+
+// One past the last offset that is instance `i` of its tile and begins below `size`, or 0.
+fn end_from(start: u64, size: u64, extent: u64, instances: u64, i: u64) -> u64
+    requires { ⌜ (size ≤ 1099511627776) × (instances ≤ 64) × (i < instances) × (0 < extent) ⌝ }
+    ensures { λ r. ⌜ r ≡ endFrom start size extent instances i ⌝ }
+{
+    if start < size {
+        let room = size - start - 1;
+        let tile = room / extent;
+        let before = tile * instances;
+        let last = before + i;
+        last + 1
+    } else {
+        0
+    }
+}
+
+// End of file in etypes, by one division for each instance: places need not rise with the offset.
+pub fn end_of(v: View, size: u64) -> Offset
+    requires { ⌜ Kept (paper v) × (size ≤ 1099511627776) ⌝ }
+    ensures { λ r. ⌜ r .0 ≡ pos (endOfFile (paper v) size) ⌝ }
+{
+    let filetype = v.filetype;
+    let instances = filetype.instances;
+    let extent = filetype.extent;
+    let origins = filetype.origins;
+    let mut end = 0;
+    let mut i = 0;
+    while i < instances {
+        let start = v.displacement + origins[i as usize];
+        let one = end_from(start, size, extent, instances, i);
+        end = larger(end, one);
+        i += 1;
+    }
+    view::to_offset(end)
+}

@@ -1,0 +1,16 @@
+-- `to_offset` casts a number below 2^63, which the signed type reads as itself. Assumes nothing.
+use borrow.Author.Needs.{needs}
+use native.Mathlib.Omega.{arith}
+use mir.Facts.{toZ-pos}
+use mir.Syntax.{w64}
+use Rattle.view.proofs.to_offset.Statement.{statement}
+use Rattle.view.proofs.to_offset.Tie as tie
+
+cast-t2 : tie.Need-cast-t2
+cast-t2 c = search needs
+
+returns : tie.Need-returns
+returns c = toZ-pos w64 (omega arith)
+
+pub to-offset-spec : {M : Type 1} → statement M
+to-offset-spec = tie.close (tie.spec cast-t2 returns)
