@@ -79,6 +79,14 @@ unfolding also
 also-inv true b h = (refl, h)
 also-inv false b h = absurd (false≢true h)
 
+pub either-yes : (a b : Bool) → a ≡ true → true ≡ either a b
+unfolding either
+either-yes a b h = rw h
+
+pub either-else : (a b z : Bool) → a ≡ false → z ≡ b → z ≡ either a b
+unfolding either
+either-else a b z h e = rw h e
+
 pub either-left : (a b : Bool) → a ≡ true → either a b ≡ true
 unfolding either
 either-left a b h = rw h
@@ -149,4 +157,4 @@ cond-no b x y z h e = rw h e
 
 pub ruleset tests = (refl, le-ltb, lt-ltb, le-leb, lt-leb, eq-eqb, ne-eqb, flag-true, flag-false, unflag-true, unflag-false)
 
-pub ruleset checks = (tests, check-yes, check-no, also-yes, also-no)
+pub ruleset checks = (tests, check-yes, check-no, also-yes, also-no, either-yes, either-else)

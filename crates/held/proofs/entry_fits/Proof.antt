@@ -1,0 +1,28 @@
+-- `entry_fits` follows the definition; the end of an entry is added up only where it cannot wrap. Assumes nothing.
+use Rattle.laws.proofs.Booleans.{checks}
+use Rattle.held.specs.Parts.{entryFits}
+use Rattle.held.proofs.Fitting.{entry-past, entry-end-fits}
+use borrow.Author.Needs.{needs}
+use Rattle.held.proofs.entry_fits.Statement.{statement}
+use Rattle.held.proofs.entry_fits.Tie as tie
+
+width-allowed-requires : tie.Need-width-allowed-requires
+width-allowed-requires c κs = search needs
+
+returns : tie.Need-returns
+unfolding entryFits
+returns c = search (checks, entry-past, entry-end-fits) depth 8
+
+returns-2 : tie.Need-returns-2
+returns-2 c = search (checks, entry-past, entry-end-fits) depth 8
+
+add-result : tie.Need-add-result
+add-result c = search (checks, entry-past, entry-end-fits) depth 8
+
+returns-3 : tie.Need-returns-3
+unfolding entryFits
+returns-3 c = search (checks, entry-past, entry-end-fits) depth 8
+
+pub entry-fits-spec : {M : Type 1} → statement M
+entry-fits-spec =
+    tie.close (tie.spec width-allowed-requires returns returns-2 add-result returns-3)

@@ -1,0 +1,58 @@
+-- `etype_kept` follows the definition along its tests. Assumes nothing.
+use Rattle.held.specs.Parts.{etypeHeld}
+use Rattle.held.proofs.Chains.{chain, ordered-prefix, upto-field, prefix-field}
+use Rattle.laws.proofs.Booleans.{tests}
+use borrow.Author.Needs.{needs}
+use Rattle.held.proofs.etype_kept.Statement.{statement}
+use Rattle.held.proofs.etype_kept.Tie as tie
+
+returns : tie.Need-returns
+unfolding etypeHeld
+returns c = search chain depth 12
+
+returns-2 : tie.Need-returns-2
+unfolding etypeHeld
+returns-2 c = search chain depth 12
+
+returns-3 : tie.Need-returns-3
+unfolding etypeHeld
+returns-3 c = search chain depth 12
+
+returns-4 : tie.Need-returns-4
+unfolding etypeHeld
+returns-4 c = search chain depth 12
+
+entries-fit-requires : tie.Need-entries-fit-requires
+entries-fit-requires c κs = search needs
+
+returns-5 : tie.Need-returns-5
+unfolding etypeHeld
+returns-5 c = search chain depth 12
+
+array-share-prefix-displacements : tie.Need-array-share-prefix-displacements
+array-share-prefix-displacements c = search (tests, upto-field)
+
+slice-aggregate-never-decrease : tie.Need-slice-aggregate-never-decrease
+slice-aggregate-never-decrease c = search prefix-field
+
+never-decrease-requires : tie.Need-never-decrease-requires
+never-decrease-requires c κs = search needs
+
+returns-6 : tie.Need-returns-6
+unfolding etypeHeld
+returns-6 c = search (chain, ordered-prefix, upto-field) depth 12
+
+pub etype-kept-spec : {M : Type 1} → statement M
+etype-kept-spec =
+    tie.close
+    (tie.spec
+    returns
+    returns-2
+    returns-3
+    returns-4
+    entries-fit-requires
+    returns-5
+    array-share-prefix-displacements
+    slice-aggregate-never-decrease
+    never-decrease-requires
+    returns-6)

@@ -1,0 +1,88 @@
+-- `filetype_kept` follows the definition along its tests; what each call requires follows from the etype's test and those before. Assumes nothing.
+use Rattle.laws.proofs.Booleans.{tests}
+use Rattle.held.specs.Parts.{filetypeHeld, lastBegins}
+use Rattle.held.proofs.Chains.{chain, etype-entries, etype-extent, etype-some, entries-fit, reach-small, last-in, last-small, first-small, reach-flag, reach-no-flag, origins-flag}
+use borrow.Author.Needs.{needs}
+use Rattle.held.proofs.filetype_kept.Statement.{statement}
+use Rattle.held.proofs.filetype_kept.Tie as tie
+
+returns : tie.Need-returns
+unfolding filetypeHeld lastBegins
+returns c = search (chain, reach-flag, reach-no-flag) depth 16
+
+returns-2 : tie.Need-returns-2
+unfolding filetypeHeld lastBegins
+returns-2 c = search (chain, reach-flag, reach-no-flag) depth 16
+
+mul-entries : tie.Need-mul-entries
+mul-entries c = search (tests, etype-entries, etype-extent, etype-some, entries-fit, reach-small, last-small, first-small, origins-flag)
+
+returns-3 : tie.Need-returns-3
+unfolding filetypeHeld lastBegins
+returns-3 c = search (chain, reach-flag, reach-no-flag) depth 16
+
+returns-4 : tie.Need-returns-4
+unfolding filetypeHeld lastBegins
+returns-4 c = search (chain, reach-flag, reach-no-flag) depth 16
+
+returns-5 : tie.Need-returns-5
+unfolding filetypeHeld lastBegins
+returns-5 c = search (chain, reach-flag, reach-no-flag) depth 16
+
+reach-of-requires : tie.Need-reach-of-requires
+reach-of-requires c κs = search (tests, etype-entries, etype-extent, etype-some, entries-fit, reach-small, last-small, first-small, origins-flag)
+
+instances-fit-requires : tie.Need-instances-fit-requires
+instances-fit-requires c κs = search (tests, etype-entries, etype-extent, etype-some, entries-fit, reach-small, last-small, first-small, origins-flag)
+
+returns-6 : tie.Need-returns-6
+unfolding filetypeHeld lastBegins
+returns-6 c = search (chain, reach-flag, reach-no-flag) depth 16
+
+sub-last : tie.Need-sub-last
+sub-last c = search (tests, etype-entries, etype-extent, etype-some, entries-fit, reach-small, last-small, first-small, origins-flag)
+
+mul-instances-step : tie.Need-mul-instances-step
+mul-instances-step c = search (needs, last-in)
+
+array-read-instances-step : tie.Need-array-read-instances-step
+array-read-instances-step c = search (needs, last-in)
+
+array-read-instances-step-2 : tie.Need-array-read-instances-step-2
+array-read-instances-step-2 c = search needs
+
+instances-step-requires : tie.Need-instances-step-requires
+instances-step-requires c κs = search (tests, etype-entries, etype-extent, etype-some, entries-fit, reach-small, last-small, first-small, origins-flag)
+
+returns-7 : tie.Need-returns-7
+unfolding filetypeHeld lastBegins
+returns-7 c = search (chain, reach-flag, reach-no-flag) depth 16
+
+holes-fit-requires : tie.Need-holes-fit-requires
+holes-fit-requires c κs = search (tests, etype-entries, etype-extent, etype-some, entries-fit, reach-small, last-small, first-small, origins-flag)
+
+returns-8 : tie.Need-returns-8
+unfolding filetypeHeld lastBegins
+returns-8 c = search (chain, reach-flag, reach-no-flag) depth 16
+
+pub filetype-kept-spec : {M : Type 1} → statement M
+filetype-kept-spec =
+    tie.close
+    (tie.spec
+    returns
+    returns-2
+    mul-entries
+    returns-3
+    returns-4
+    returns-5
+    reach-of-requires
+    instances-fit-requires
+    returns-6
+    sub-last
+    mul-instances-step
+    array-read-instances-step
+    array-read-instances-step-2
+    instances-step-requires
+    returns-7
+    holes-fit-requires
+    returns-8)

@@ -1,0 +1,60 @@
+-- `instances_fit` passes the instances in order and leaves at the first that reaches past the limit. Assumes nothing.
+use Prim.Native.Nat.{_-_, _≤_}
+use Rattle.laws.proofs.Searching.{Passed}
+use Rattle.held.specs.Parts.{reachAt}
+use Rattle.held.proofs.Fitting.{reaching-origins}
+use Rattle.held.proofs.instances_fit.Statement.{statement}
+use Rattle.held.proofs.instances_fit.Tie as tie
+
+abbrev Inv-loop : tie.InvT-loop
+Inv-loop reach k origins g₀ g = (k ≤ 64) × (reach ≤ 1048576) × Passed (reachAt origins reach) g k
+
+abbrev μ-loop : tie.MeasureT-loop
+μ-loop reach k origins g₀ g = k - g
+
+loop-holds : tie.Need-loop-holds Inv-loop μ-loop
+loop-holds c = search reaching-origins
+
+mul-p : tie.Need-mul-p Inv-loop μ-loop
+mul-p c = search reaching-origins
+
+array-read-p : tie.Need-array-read-p Inv-loop μ-loop
+array-read-p c = search reaching-origins
+
+returns : tie.Need-returns Inv-loop μ-loop
+returns c = search reaching-origins
+
+add-if2 : tie.Need-add-if2 Inv-loop μ-loop
+add-if2 c = search reaching-origins
+
+returns-2 : tie.Need-returns-2 Inv-loop μ-loop
+returns-2 c = search reaching-origins
+
+add-g : tie.Need-add-g Inv-loop μ-loop
+add-g c = search reaching-origins
+
+loop-less : tie.Need-loop-less Inv-loop μ-loop
+loop-less c = search reaching-origins
+
+loop-again : tie.Need-loop-again Inv-loop μ-loop
+loop-again c = search reaching-origins
+
+returns-3 : tie.Need-returns-3 Inv-loop μ-loop
+returns-3 c = search reaching-origins
+
+pub instances-fit-spec : {M : Type 1} → statement M
+instances-fit-spec =
+    tie.close
+    (tie.spec
+    Inv-loop
+    μ-loop
+    loop-holds
+    mul-p
+    array-read-p
+    returns
+    add-if2
+    returns-2
+    add-g
+    loop-less
+    loop-again
+    returns-3)

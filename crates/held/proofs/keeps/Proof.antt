@@ -1,0 +1,57 @@
+-- `keeps` follows the tests on the record, which make up the rules on the view that it stands for. Assumes nothing.
+use borrow.Author.Needs.{needs}
+use Rattle.laws.proofs.Booleans.{tests}
+use Rattle.held.specs.Parts.{viewHeld}
+use Rattle.held.proofs.Chains.{chain, shape-flags}
+use Rattle.held.proofs.Whole.{keeps-by, no-writing, writing}
+use Rattle.held.proofs.keeps.Statement.{statement}
+use Rattle.held.proofs.keeps.Tie as tie
+
+returns : tie.Need-returns
+unfolding viewHeld
+returns c = keeps-by _ _ _ (search chain depth 12)
+
+etype-kept-requires : tie.Need-etype-kept-requires
+etype-kept-requires c κs = search needs
+
+returns-2 : tie.Need-returns-2
+unfolding viewHeld
+returns-2 c = keeps-by _ _ _ (search chain depth 12)
+
+filetype-kept-requires : tie.Need-filetype-kept-requires
+filetype-kept-requires c κs = search tests
+
+returns-3 : tie.Need-returns-3
+unfolding viewHeld
+returns-3 c = keeps-by _ _ _ (search chain depth 12)
+
+writes-requires : tie.Need-writes-requires
+writes-requires c κs = search needs
+
+returns-4 : tie.Need-returns-4
+unfolding viewHeld
+returns-4 c = keeps-by _ _ _ (search (chain, no-writing) depth 12)
+
+shape-apart-requires : tie.Need-shape-apart-requires
+shape-apart-requires c κs =
+    let f = c .before .before in
+    let e = f .before .before .before in
+    shape-flags _ _ _ _ (e .before .etype-kept .ensures) (e .if2 .left) (f .before .filetype-kept .ensures) (f .if3 .left)
+
+returns-5 : tie.Need-returns-5
+unfolding viewHeld
+returns-5 c = keeps-by _ _ _ (search (chain, writing) depth 12)
+
+pub keeps-spec : {M : Type 1} → statement M
+keeps-spec =
+    tie.close
+    (tie.spec
+    returns
+    etype-kept-requires
+    returns-2
+    filetype-kept-requires
+    returns-3
+    writes-requires
+    returns-4
+    shape-apart-requires
+    returns-5)
