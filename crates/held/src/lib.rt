@@ -2,7 +2,7 @@
 // The parts are tested on the record, at a cost that grows with the etype's entries plus the instances.
 ghost use mathlib.Core.Bool.{true};
 ghost use mathlib.Core.Path.{_≡_};
-ghost use Prim.Native.Nat.{_≤_, _<_, _-_, max};
+ghost use Prim.Native.Nat.{_≤_, _<_, _-_};
 ghost use lib.ListN.{length};
 ghost use Rattle.laws.specs.Lists.{nth};
 ghost use Rattle.laws.specs.Search.{all};
@@ -89,12 +89,6 @@ pub fn never_decrease(ds: &[u64]) -> bool
     true
 }
 
-fn larger(a: u64, b: u64) -> u64
-    ensures { λ r. ⌜ r ≡ max a b ⌝ }
-{
-    if a < b { b } else { a }
-}
-
 // How far the etype's entries reach.
 fn reach_of(e: Etype) -> u64
     requires { ⌜ EntriesKept (e .entries) (e .widths) (e .displacements) ⌝ }
@@ -107,7 +101,7 @@ fn reach_of(e: Etype) -> u64
     let mut i = 0;
     while i < n {
         let end = displacements[i] + widths[i];
-        reach = larger(reach, end);
+        reach = laws::larger(reach, end);
         i += 1;
     }
     reach
@@ -176,13 +170,6 @@ fn entries_apart(e: Etype) -> bool
     true
 }
 
-// The positive part of a difference, or 0.
-fn less(a: u64, b: u64) -> u64
-    ensures { λ r. ⌜ r ≡ a - b ⌝ }
-{
-    if a < b { 0 } else { a - b }
-}
-
 // Whether each hole of a filetype is a multiple of the etype's extent `e`. For our own crates.
 pub fn holes_fit(f: Filetype, e: u64) -> bool
     requires { ⌜ (0 < f .instances) × (f .instances ≤ 64) × (0 < e) ⌝ }
@@ -197,16 +184,16 @@ pub fn holes_fit(f: Filetype, e: u64) -> bool
     let mut i = 1;
     while i < k {
         let before = i - 1;
-        let shift = less(origins[i], origins[before]);
-        let hole = less(shift, e);
+        let shift = laws::less(origins[i], origins[before]);
+        let hole = laws::less(shift, e);
         if hole % e != 0 {
             return false;
         }
         i += 1;
     }
     let last = k - 1;
-    let rest = less(extent, origins[last]);
-    let hole = less(rest, e);
+    let rest = laws::less(extent, origins[last]);
+    let hole = laws::less(rest, e);
     hole % e == 0
 }
 

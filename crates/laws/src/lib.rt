@@ -1,1 +1,17 @@
-// General definitions and laws on searches, maxima, sums, stores into lists and refusal chains. Nothing of MPI.
+// General definitions and laws on searches, maxima, sums, stores into lists and refusal chains, and two small functions. Nothing of MPI.
+ghost use mathlib.Core.Path.{_≡_};
+ghost use Prim.Native.Nat.{_-_, max};
+
+// The larger of two numbers.
+pub fn larger(a: u64, b: u64) -> u64
+    ensures { λ r. ⌜ r ≡ max a b ⌝ }
+{
+    if a < b { b } else { a }
+}
+
+// The difference of two numbers where it is positive, or 0.
+pub fn less(a: u64, b: u64) -> u64
+    ensures { λ r. ⌜ r ≡ a - b ⌝ }
+{
+    if a < b { 0 } else { a - b }
+}

@@ -2,7 +2,7 @@
 // These functions are pub for our own crates: a handle's calls test handle, offset and file first, and meet what is required here.
 ghost use mathlib.Core.Bool.{true};
 ghost use mathlib.Core.Path.{_≡_};
-ghost use Prim.Native.Nat.{_≤_, _<_, max};
+ghost use Prim.Native.Nat.{_≤_, _<_};
 ghost use lib.IntN.{pos};
 ghost use Rattle.view.specs.Limits.{offsetAllowed};
 ghost use Rattle.view.specs.Types.{paper, whole};
@@ -27,12 +27,6 @@ pub fn place_of(v: View, o: Offset) -> BytePos
     let step = tile * filetype.extent;
     let begin = v.displacement + step;
     BytePos(begin + origins[instance])
-}
-
-fn larger(a: u64, b: u64) -> u64
-    ensures { λ r. ⌜ r ≡ max a b ⌝ }
-{
-    if a < b { b } else { a }
 }
 
 // One past the last offset that is instance `i` of its tile and begins below `size`, or 0.
@@ -65,7 +59,7 @@ pub fn end_of(v: View, size: u64) -> Offset
     while i < instances {
         let start = v.displacement + origins[i as usize];
         let one = end_from(start, size, extent, instances, i);
-        end = larger(end, one);
+        end = laws::larger(end, one);
         i += 1;
     }
     view::to_offset(end)
