@@ -5,7 +5,7 @@ use Rattle.laws.specs.Search.{first, all, greatest, total}
 use Rattle.laws.specs.Lists.{tabulate, store}
 use Rattle.view.specs.Limits.{widthAllowed, etypeEntriesAllowed, filetypeEntriesAllowed, entryDisplacementAllowed, extentAllowed, displacementAllowed, offsetAllowed, pointerAllowed, fileAllowed}
 use Rattle.view.specs.Types.{whole, entries, widthAt, displacementAt, extentOf, paper, defaultView}
-use Rattle.view.specs.Rules.{native, isNative, paired, entryAllowed, entriesAllowed, ordered, typeOrdered, instances, origin, entryBuilt, built, hole, holesFit, viewHolesFit, nextBegins, entryApart, apart, modeAllowed, allowsReading, allowsWriting, viewRefusal, setRefusal, accepted, hold}
+use Rattle.view.specs.Rules.{nativeName, isNative, paired, entryAllowed, entriesAllowed, ordered, typeOrdered, instances, origin, entryBuilt, built, hole, holesFit, viewHolesFit, nextBegins, entryApart, apart, modeAllowed, allowsReading, allowsWriting, viewRefusal, setRefusal, accepted, hold}
 use Rattle.view.specs.Places.{place, packedBefore, dataSize, entryOf, dataAt, byteOf}
 use Rattle.view.specs.Owners.{entryStart, offsetIn, indexIn, hits, hitEntry, ownerOf}
 use Rattle.view.specs.End.{endFrom, endOfFile}
@@ -16,7 +16,7 @@ use Rattle.file.specs.Answers.{openAnswer, setViewAnswer, placeAnswer, reverseA
 use Rattle.figures.specs.Table.{Figures}
 
 pub figures : Figures
-unfolding also either within check granted first all greatest total tabulate store widthAllowed etypeEntriesAllowed filetypeEntriesAllowed entryDisplacementAllowed extentAllowed displacementAllowed offsetAllowed pointerAllowed fileAllowed whole entries widthAt displacementAt extentOf paper defaultView native isNative paired entryAllowed entriesAllowed ordered typeOrdered instances origin entryBuilt built hole holesFit viewHolesFit nextBegins entryApart apart modeAllowed allowsReading allowsWriting viewRefusal setRefusal accepted hold place packedBefore dataSize entryOf dataAt byteOf entryStart offsetIn indexIn hits hitEntry ownerOf endFrom endOfFile fileByte inFile moved readInto writeEnd newSize written viewOf freshHandle modeGot handleKept fileKept withPointer withView withSize openRefusal setViewRefusal placeRefusal reverseRefusal endRefusal seekTarget targetAllowed seekRefusal accessAllowed readRefusal writeRefusal openAnswer setViewAnswer placeAnswer reverseAnswer endAnswer seekAnswer readCount readAtAnswer writeAtAnswer writtenFile
+unfolding also either within check granted first all greatest total tabulate store widthAllowed etypeEntriesAllowed filetypeEntriesAllowed entryDisplacementAllowed extentAllowed displacementAllowed offsetAllowed pointerAllowed fileAllowed whole entries widthAt displacementAt extentOf paper defaultView nativeName isNative paired entryAllowed entriesAllowed ordered typeOrdered instances origin entryBuilt built hole holesFit viewHolesFit nextBegins entryApart apart modeAllowed allowsReading allowsWriting viewRefusal setRefusal accepted hold place packedBefore dataSize entryOf dataAt byteOf entryStart offsetIn indexIn hits hitEntry ownerOf endFrom endOfFile fileByte inFile moved readInto writeEnd newSize written viewOf freshHandle modeGot handleKept fileKept withPointer withView withSize openRefusal setViewRefusal placeRefusal reverseRefusal endRefusal seekTarget targetAllowed seekRefusal accessAllowed readRefusal writeRefusal openAnswer setViewAnswer placeAnswer reverseAnswer endAnswer seekAnswer readCount readAtAnswer writeAtAnswer writtenFile
 figures = record {
   p1-set = refl;
   p1-place = refl;

@@ -5,7 +5,7 @@ use mathlib.Core.Path.{_≡_}
 use lib.IntN.{ℤ, pos, negsuc}
 use lib.ListN.{length, replicate}
 use Rattle.view.specs.Types.{PaperType, PaperView}
-use Rattle.view.specs.Rules.{native}
+use Rattle.view.specs.Rules.{nativeName}
 use Rattle.view.specs.declared.Owner.{Owner}
 use Rattle.view.specs.declared.Owner.the-variants.{Pair, Nobody}
 use Rattle.file.specs.declared.Handle.{Handle}
@@ -33,7 +33,7 @@ viewOn d etype ws ds f = record { displacement = pos d; etype = etype; filetype 
 
 -- an open in this mode, and the set of a view after it
 abbrev pub openSet : ℕ → PaperView → Opened
-openSet mode v = setViewAnswer (openAnswer mode .handle) native v
+openSet mode v = setViewAnswer (openAnswer mode .handle) nativeName v
 
 -- the handle that it gives back, the place of an offset, and the end at a size
 abbrev pub handleOf : ℕ → PaperView → Handle

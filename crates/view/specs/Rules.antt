@@ -16,11 +16,11 @@ use Rattle.view.specs.Types.{PaperType, PaperView, entries, widthAt, dis
 -- ---- limits
 
 -- 2: the representation is exactly the six bytes `native`
-unfoldable pub native : List ℕ
-native = 110 ∷ 97 ∷ 116 ∷ 105 ∷ 118 ∷ 101 ∷ []
+unfoldable pub nativeName : List ℕ
+nativeName = 110 ∷ 97 ∷ 116 ∷ 105 ∷ 118 ∷ 101 ∷ []
 
 unfoldable pub isNative : List ℕ → Bool
-isNative r = also (eqb (length r) 6) (all (λ i. eqb (nth r i) (nth native i)) 6)
+isNative r = also (eqb (length r) 6) (all (λ i. eqb (nth r i) (nth nativeName i)) 6)
 
 -- 4: a type's two lists have one length
 unfoldable pub paired : PaperType → Bool

@@ -1,0 +1,17 @@
+-- `displacement_allowed` follows the definition by the sign. Assumes nothing.
+use Rattle.accept.proofs.Lending.{signing}
+use borrow.Author.Needs.{needs}
+use Rattle.accept.proofs.displacement_allowed.Statement.{statement}
+use Rattle.accept.proofs.displacement_allowed.Tie as tie
+
+returns : tie.Need-returns
+returns c = search signing
+
+natural-requires : tie.Need-natural-requires
+natural-requires c κs = search needs
+
+returns-2 : tie.Need-returns-2
+returns-2 c = search signing
+
+pub displacement-allowed-spec : {M : Type 1} → statement M
+displacement-allowed-spec = tie.close (tie.spec returns natural-requires returns-2)

@@ -1,0 +1,66 @@
+-- `entries_allowed` passes the entries in order and leaves at the first that is not allowed. Assumes nothing.
+use Prim.Native.Nat.{_-_}
+use mathlib.Core.Path.{_≡_}
+use lib.ListN.{length}
+use Rattle.laws.proofs.Searching.{Passed}
+use Rattle.accept.specs.Parts.{typeLent}
+use Rattle.accept.proofs.Lending.{lending}
+use Rattle.accept.proofs.entries_allowed.Statement.{statement}
+use Rattle.accept.proofs.entries_allowed.Tie as tie
+
+abbrev Inv-loop : tie.InvT-loop
+Inv-loop ws ds i₀ i = (length ds ≡ length ws) × Passed (typeLent ws ds) i (length ws)
+
+abbrev μ-loop : tie.MeasureT-loop
+μ-loop ws ds i₀ i = length ws - i
+
+loop-holds : tie.Need-loop-holds Inv-loop μ-loop
+loop-holds c = search lending
+
+mul-entry-allowed : tie.Need-mul-entry-allowed Inv-loop μ-loop
+mul-entry-allowed c = search lending
+
+shared-slice-read-entry-allowed : tie.Need-shared-slice-read-entry-allowed Inv-loop μ-loop
+shared-slice-read-entry-allowed c = search lending
+
+mul-entry-allowed-2 : tie.Need-mul-entry-allowed-2 Inv-loop μ-loop
+mul-entry-allowed-2 c = search lending
+
+shared-slice-copy-out-entry-allowed : tie.Need-shared-slice-copy-out-entry-allowed Inv-loop μ-loop
+shared-slice-copy-out-entry-allowed c = search lending
+
+entry-allowed-requires : tie.Need-entry-allowed-requires Inv-loop μ-loop
+entry-allowed-requires c κs = search lending
+
+returns : tie.Need-returns Inv-loop μ-loop
+returns c = search lending
+
+add-i : tie.Need-add-i Inv-loop μ-loop
+add-i c = search lending
+
+loop-less : tie.Need-loop-less Inv-loop μ-loop
+loop-less c = search lending
+
+loop-again : tie.Need-loop-again Inv-loop μ-loop
+loop-again c = search lending
+
+returns-2 : tie.Need-returns-2 Inv-loop μ-loop
+returns-2 c = search lending
+
+pub entries-allowed-spec : {M : Type 1} → statement M
+entries-allowed-spec =
+    tie.close
+    (tie.spec
+    Inv-loop
+    μ-loop
+    loop-holds
+    mul-entry-allowed
+    shared-slice-read-entry-allowed
+    mul-entry-allowed-2
+    shared-slice-copy-out-entry-allowed
+    entry-allowed-requires
+    returns
+    add-i
+    loop-less
+    loop-again
+    returns-2)

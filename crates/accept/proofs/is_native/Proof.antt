@@ -1,0 +1,61 @@
+-- `is_native` compares the length, then byte by byte. Assumes nothing.
+use Prim.Native.Nat.{_-_}
+use mathlib.Core.Path.{_≡_}
+use lib.ListN.{length}
+use Rattle.laws.proofs.Searching.{Passed}
+use Rattle.view.specs.Rules.{nativeName}
+use Rattle.accept.specs.Parts.{nativeAt}
+use Rattle.accept.proofs.Lending.{representing}
+use Rattle.accept.proofs.is_native.Statement.{statement}
+use Rattle.accept.proofs.is_native.Tie as tie
+
+abbrev Inv-loop : tie.InvT-loop
+Inv-loop representation i₀ i = (length representation ≡ 6) × Passed (nativeAt representation) i 6
+
+abbrev μ-loop : tie.MeasureT-loop
+μ-loop representation i₀ i = 6 - i
+
+returns : tie.Need-returns Inv-loop μ-loop
+returns c = search representing
+
+loop-holds : tie.Need-loop-holds Inv-loop μ-loop
+loop-holds c = search representing
+
+shared-slice-read-if2 : tie.Need-shared-slice-read-if2 Inv-loop μ-loop
+shared-slice-read-if2 c = search representing
+
+array-read-if2 : tie.Need-array-read-if2 Inv-loop μ-loop
+array-read-if2 c = search representing
+
+returns-2 : tie.Need-returns-2 Inv-loop μ-loop
+unfolding nativeName
+returns-2 c = search representing
+
+add-i : tie.Need-add-i Inv-loop μ-loop
+add-i c = search representing
+
+loop-less : tie.Need-loop-less Inv-loop μ-loop
+loop-less c = search representing
+
+loop-again : tie.Need-loop-again Inv-loop μ-loop
+unfolding nativeName
+loop-again c = search representing
+
+returns-3 : tie.Need-returns-3 Inv-loop μ-loop
+returns-3 c = search representing
+
+pub is-native-spec : {M : Type 1} → statement M
+is-native-spec =
+    tie.close
+    (tie.spec
+    Inv-loop
+    μ-loop
+    returns
+    loop-holds
+    shared-slice-read-if2
+    array-read-if2
+    returns-2
+    add-i
+    loop-less
+    loop-again
+    returns-3)

@@ -1,0 +1,36 @@
+-- What acceptance answers: document 01's refusal 2 to 10 of the lent lists, and the record of the view.
+use Prim.Native.Nat.{ℕ, _≤_, _<_}
+use mathlib.Core.List.{List}
+use mathlib.Core.Path.{_≡_}
+use lib.IntN.{ℤ}
+use Rattle.laws.specs.Checks.{granted}
+use Rattle.laws.specs.Lists.{nth}
+use Rattle.view.specs.declared.View.{View}
+use Rattle.view.specs.Types.{PaperType, PaperView, paper, defaultView}
+use Rattle.view.specs.Rules.{setRefusal, hold}
+use Rattle.accept.specs.declared.Accepted.{Accepted}
+
+-- the type that lent lists and an extent are, and the view of two such types
+abbrev pub lentType : List ℕ → List ℤ → ℤ → PaperType
+lentType ws ds x = record { widths = ws; displacements = ds; extent = x }
+
+abbrev pub lentView : ℤ → PaperType → PaperType → PaperView
+lentView d e f = record { displacement = d; etype = e; filetype = f }
+
+-- the refusal number and the view; the default view if refused
+unfoldable pub acceptAnswer : ℕ → List ℕ → PaperView → Accepted
+acceptAnswer mode representation v =
+    let n = setRefusal mode representation v in
+    record { refusal = n; view = granted n (hold v) defaultView }
+
+-- the unused places of a held view are 0
+pub record UnusedZero (v : View) : Type 0 where
+  pub widths : (i : ℕ) → v .etype .entries ≤ i → i < 8 → nth (v .etype .widths) i ≡ 0
+  pub displacements : (i : ℕ) → v .etype .entries ≤ i → i < 8 → nth (v .etype .displacements) i ≡ 0
+  pub origins : (i : ℕ) → v .filetype .instances ≤ i → i < 64 → nth (v .filetype .origins) i ≡ 0
+
+-- the whole answer; where it is granted, the record stands for the lent view, entry for entry, with both extents and the displacement
+pub record AcceptedAs (mode : ℕ) (representation : List ℕ) (v : PaperView) (r : Accepted) : Type 0 where
+  pub answer : r ≡ acceptAnswer mode representation v
+  pub same : r .refusal ≡ 0 → paper (r .view) ≡ v
+  pub unused : UnusedZero (r .view)

@@ -1,0 +1,62 @@
+-- What the functions of this crate test and make, part by part. A reader need not believe these: the contract of `accept` is `AcceptedAs`, and the proofs show that the parts make it up.
+use Prim.Native.Nat.{ℕ, _+_, _-_, _*_, _/_, _%_, _≤_, _<_}
+use mathlib.Core.Bool.{Bool, not}
+use mathlib.Core.List.{List}
+use mathlib.Core.Path.{_≡_}
+use lib.Dec.{leb, eqb}
+use lib.IntN.{ℤ, pos}
+use lib.ListN.{length, getD}
+use Rattle.laws.specs.Checks.{also, either, check}
+use Rattle.laws.specs.Lists.{nth}
+use Rattle.laws.specs.Search.{all}
+use Rattle.view.specs.Limits.{widthAllowed, etypeEntriesAllowed, filetypeEntriesAllowed, entryDisplacementAllowed, extentAllowed, displacementAllowed}
+use Rattle.view.specs.Types.{PaperType, PaperView, whole}
+use Rattle.view.specs.Rules.{nativeName, isNative, entriesAllowed, typeOrdered, built, viewHolesFit, apart, allowsWriting}
+
+-- byte i of a representation is that of `native`
+unfoldable pub nativeAt : List ℕ → ℕ → Bool
+nativeAt r i = eqb (nth r i) (nth nativeName i)
+
+-- both types' lists are n and m long, and these counts are allowed
+unfoldable pub countsAllowed : ℕ → ℕ → ℕ → ℕ → Bool
+countsAllowed ew ed fw fd = also (eqb ew ed) (also (eqb fw fd) (also (etypeEntriesAllowed ew) (filetypeEntriesAllowed ew fw)))
+
+-- an entry as it is lent
+unfoldable pub entryLent : ℕ → ℤ → Bool
+entryLent w d = also (widthAllowed w) (entryDisplacementAllowed w d)
+
+unfoldable pub typeLent : List ℕ → List ℤ → ℕ → Bool
+typeLent ws ds i = entryLent (nth ws i) (getD ds i (pos 0))
+
+-- displacement i of a list as a natural number
+unfoldable pub wholeAt : List ℤ → ℕ → ℕ
+wholeAt ds i = whole (getD ds i (pos 0))
+
+-- checks 2 to 6, and what the later ones say
+unfoldable pub limitsRefusal : List ℕ → PaperView → ℕ → ℕ
+limitsRefusal representation v later =
+    check (isNative representation) 2
+    (check (displacementAllowed (v .displacement)) 3
+    (check (countsAllowed (length (v .etype .widths)) (length (v .etype .displacements)) (length (v .filetype .widths)) (length (v .filetype .displacements))) 4
+    (check (also (extentAllowed (v .etype .extent)) (extentAllowed (v .filetype .extent))) 5
+    (check (also (entriesAllowed (v .etype)) (entriesAllowed (v .filetype))) 6
+    later))))
+
+-- checks 7 to 10
+unfoldable pub rulesRefusal : ℕ → PaperView → ℕ
+rulesRefusal mode v =
+    check (also (typeOrdered (v .etype)) (typeOrdered (v .filetype))) 7
+    (check (built v) 8
+    (check (viewHolesFit v) 9
+    (check (either (not (allowsWriting mode)) (apart v)) 10
+    0)))
+
+-- what checks 2 to 6 leave
+pub record LimitsKept (v : PaperView) : Type 0 where
+  pub some : 0 < length (v .etype .widths)
+  pub few : length (v .etype .widths) ≤ 8
+  pub pairs : length (v .etype .displacements) ≡ length (v .etype .widths)
+  pub file-some : 0 < length (v .filetype .widths)
+  pub file-few : length (v .filetype .widths) ≤ 256
+  pub file-times : length (v .filetype .widths) ≤ 64 * length (v .etype .widths)
+  pub file-pairs : length (v .filetype .displacements) ≡ length (v .filetype .widths)
