@@ -5,10 +5,12 @@ use mathlib.Core.List.{List}
 use mathlib.Core.Path.{_≡_}
 use lib.Dec.{leb, eqb}
 use lib.IntN.{ℤ, pos}
-use lib.ListN.{length, getD}
+use lib.ListN.{length, getD, replicate}
 use Rattle.laws.specs.Checks.{also, either, check}
-use Rattle.laws.specs.Lists.{nth}
+use Rattle.laws.specs.Lists.{nth, front}
 use Rattle.laws.specs.Search.{all}
+use Rattle.view.specs.declared.Etype.{Etype}
+use Rattle.view.specs.declared.Filetype.{Filetype}
 use Rattle.view.specs.Limits.{widthAllowed, etypeEntriesAllowed, filetypeEntriesAllowed, entryDisplacementAllowed, extentAllowed, displacementAllowed}
 use Rattle.view.specs.Types.{PaperType, PaperView, whole}
 use Rattle.view.specs.Rules.{nativeName, isNative, entriesAllowed, typeOrdered, built, viewHolesFit, apart, allowsWriting}
@@ -60,3 +62,34 @@ pub record LimitsKept (v : PaperView) : Type 0 where
   pub file-few : length (v .filetype .widths) ≤ 256
   pub file-times : length (v .filetype .widths) ≤ 64 * length (v .etype .widths)
   pub file-pairs : length (v .filetype .displacements) ≡ length (v .filetype .widths)
+
+-- the etype's record, of n widths and displacements
+unfoldable pub heldEtype : List ℕ → List ℤ → ℕ → Etype
+heldEtype ws ds x = record {
+  entries = length ws;
+  widths = front (nth ws) (length ws) (replicate 8 0);
+  displacements = front (wholeAt ds) (length ds) (replicate 8 0);
+  extent = x;
+}
+
+-- an entry of width w at d is the etype's of width ew at ed, shifted as far as the group's beginning lies from the etype's first entry
+unfoldable pub entryShifted : ℕ → ℕ → ℕ → ℕ → ℕ → ℕ → Bool
+entryShifted w d ew ed begin first = also (eqb w ew) (also (leb first begin) (eqb d (ed + (begin - first))))
+
+-- entry i of a filetype, over an etype of n widths ws and displacements ds
+unfoldable pub builtAt : List ℕ → List ℕ → ℕ → List ℕ → List ℕ → ℕ → Bool
+builtAt ws ds n fw fd i = entryShifted (nth fw i) (nth fd i) (nth ws (i % n)) (nth ds (i % n)) (nth fd (i / n * n)) (nth ds 0)
+
+unfoldable pub groupsBuilt : List ℕ → List ℕ → ℕ → List ℕ → List ℕ → Bool
+groupsBuilt ws ds n fw fd = also (eqb (length fw % n) 0) (all (builtAt ws ds n fw fd) (length fw))
+
+-- the filetype's record, of displacements fd, over an etype of n entries that begins at first
+unfoldable pub groupOrigin : List ℕ → ℕ → ℕ → ℕ → ℕ
+groupOrigin fd n first g = nth fd (g * n) - first
+
+unfoldable pub heldFiletype : List ℕ → ℕ → ℕ → ℕ → Filetype
+heldFiletype fd n first x = record {
+  instances = length fd / n;
+  origins = front (groupOrigin fd n first) (length fd / n) (replicate 64 0);
+  extent = x;
+}

@@ -9,7 +9,7 @@ ghost use Rattle.view.specs.Limits.{displacementAllowed, extentAllowed};
 ghost use Rattle.view.specs.Types.{defaultView};
 ghost use Rattle.view.specs.Rules.{isNative, hold};
 ghost use Rattle.accept.specs.Answers.{lentType, lentView, AcceptedAs};
-ghost use Rattle.accept.specs.Parts.{nativeAt, countsAllowed, entryLent, typeLent, wholeAt, limitsRefusal, LimitsKept};
+ghost use Rattle.accept.specs.Parts.{countsAllowed, entryLent, typeLent, wholeAt, limitsRefusal, heldEtype, entryShifted, groupsBuilt, heldFiletype};
 use view::Etype;
 use view::Filetype;
 use view::View;
@@ -18,6 +18,19 @@ use view::View;
 pub struct Accepted {
     pub refusal: u64,
     pub view: View,
+}
+
+impl Accepted {
+    // Document 01's refusal numbers.
+    pub const REPRESENTATION: u64 = 2;
+    pub const DISPLACEMENT: u64 = 3;
+    pub const COUNTS: u64 = 4;
+    pub const EXTENT: u64 = 5;
+    pub const ENTRY: u64 = 6;
+    pub const ORDER: u64 = 7;
+    pub const BUILT: u64 = 8;
+    pub const HOLE: u64 = 9;
+    pub const OVERLAP: u64 = 10;
 }
 
 const NATIVE_LENGTH: usize = 6;
@@ -135,5 +148,124 @@ fn copy_displacements(ds: &[i64], out: &mut [u64])
         let d = view::natural(ds[i]);
         out[i] = d;
         i += 1;
+    }
+}
+
+// The refusal number of checks 2 to 6, each over both types, or 0.
+fn limits_refusal(
+    representation: &[u8],
+    displacement: i64,
+    ew: &[u64],
+    ed: &[i64],
+    ex: i64,
+    fw: &[u64],
+    fd: &[i64],
+    fx: i64,
+) -> u64
+    ensures { λ r. ⌜ r ≡ limitsRefusal (now (representation .entry)) (lentView displacement (lentType (now (ew .entry)) (now (ed .entry)) ex) (lentType (now (fw .entry)) (now (fd .entry)) fx)) 0 ⌝ }
+{
+    if !is_native(representation) {
+        return Accepted::REPRESENTATION;
+    }
+    if !displacement_allowed(displacement) {
+        return Accepted::DISPLACEMENT;
+    }
+    if !counts_allowed(ew.len(), ed.len(), fw.len(), fd.len()) {
+        return Accepted::COUNTS;
+    }
+    if !extent_allowed(ex) {
+        return Accepted::EXTENT;
+    }
+    if !extent_allowed(fx) {
+        return Accepted::EXTENT;
+    }
+    if !entries_allowed(ew, ed) {
+        return Accepted::ENTRY;
+    }
+    if !entries_allowed(fw, fd) {
+        return Accepted::ENTRY;
+    }
+    0
+}
+
+// The etype's record.
+fn etype_of(ws: &[u64], ds: &[i64], extent: u64) -> Etype
+    requires { ⌜ (length (now ws) ≤ 8) × (length (now ds) ≡ length (now ws)) ⌝ }
+    ensures { λ r. ⌜ r ≡ heldEtype (now (ws .entry)) (now (ds .entry)) extent ⌝ }
+{
+    let mut widths = [0u64; 8];
+    copy_widths(ws, &mut widths);
+    let mut displacements = [0u64; 8];
+    copy_displacements(ds, &mut displacements);
+    Etype {
+        entries: ws.len() as u64,
+        widths: widths,
+        displacements: displacements,
+        extent: extent,
+    }
+}
+
+// Whether an entry of width `w` at `d` is the etype's of width `ew` at `ed`, shifted from `first` to `begin`.
+fn entry_built(w: u64, d: u64, ew: u64, ed: u64, begin: u64, first: u64) -> bool
+    ensures { λ r. ⌜ r ≡ entryShifted w d ew ed begin first ⌝ }
+{
+    if w != ew {
+        return false;
+    }
+    if begin < first {
+        return false;
+    }
+    let shift = begin - first;
+    if d < ed {
+        return false;
+    }
+    d - ed == shift
+}
+
+// Whether a filetype's entries fall into whole groups, each the etype shifted by one number.
+fn is_built(e: Etype, fw: &[u64], fd: &[u64]) -> bool
+    requires { ⌜ (0 < e .entries) × (e .entries ≤ 8) × (length (now fd) ≡ length (now fw)) ⌝ }
+    ensures { λ r. ⌜ r ≡ groupsBuilt (e .widths) (e .displacements) (e .entries) (now (fw .entry)) (now (fd .entry)) ⌝ }
+{
+    let n = e.entries as usize;
+    let widths = e.widths;
+    let displacements = e.displacements;
+    if fw.len() % n != 0 {
+        return false;
+    }
+    let mut i = 0;
+    while i < fw.len() {
+        let j = i % n;
+        let group = i / n;
+        let begin = group * n;
+        if !entry_built(fw[i], fd[i], widths[j], displacements[j], fd[begin], displacements[0]) {
+            return false;
+        }
+        i += 1;
+    }
+    true
+}
+
+// The filetype's record: the origin of each group.
+fn filetype_of(e: Etype, fd: &[u64], extent: u64) -> Filetype
+    requires { ⌜ (0 < e .entries) × (length (now fd) / e .entries ≤ 64) ⌝ }
+    ensures { λ r. ⌜ r ≡ heldFiletype (now (fd .entry)) (e .entries) (nth (e .displacements) 0) extent ⌝ }
+{
+    let n = e.entries as usize;
+    let displacements = e.displacements;
+    let first = displacements[0];
+    let k = fd.len() / n;
+    let mut origins = [0u64; 64];
+    let mut g = 0;
+    while g < k {
+        let begin = g * n;
+        let p = laws::less(fd[begin], first);
+        origins[g] = p;
+        g += 1;
+    }
+    Filetype {
+        instances: k as u64,
+        origins: origins,
+        extent: extent,
     }
 }

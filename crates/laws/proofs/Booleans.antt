@@ -69,6 +69,10 @@ pub also-true : {a b : Bool} → a ≡ true → b ≡ true → also a b ≡ true
 unfolding also
 also-true {a} {b} h k = rw h k
 
+pub also-first : (a b : Bool) → a ≡ false → also a b ≡ false
+unfolding also
+also-first a b h = rw h
+
 pub also-false : (a b : Bool) → b ≡ false → also a b ≡ false
 unfolding also
 also-false true b h = h

@@ -1,0 +1,150 @@
+-- Checks 2 to 6 as a chain, and how the record of a view is built of lent lists.
+use Prim.Native.Nat.{ℕ, suc, _+_, _-_, _*_, _/_, _%_, _^_, _≤_, _<_}
+use mathlib.Core.Bool.{Bool, true, false, not}
+use mathlib.Core.List.{List}
+use mathlib.Core.Logic.{⊎-elim}
+use mathlib.Core.Path.{_≡_, refl, sym, ap, _∙_}
+use native.Mathlib.Nat.{mod-lt, div-mul-le-self, mul-le-mul-right}
+use native.Mathlib.Omega.{arith}
+use borrow.Author.Needs.{needs}
+use borrow.Author.Tests.{eq-eqb, ne-eqb, eqb-true}
+use lib.Dec.{leb, eqb}
+use lib.IntN.{ℤ, pos}
+use lib.ListN.{length, getD, replicate}
+use mir.Syntax.{w64}
+use mir.Val.{Fits, SFits, toZ, ofZ}
+use mir.Facts.{toZ-ofZ}
+use Rattle.laws.specs.Checks.{also, check}
+use Rattle.laws.specs.Lists.{nth, front}
+use Rattle.laws.specs.Search.{all}
+use Rattle.laws.proofs.Booleans.{tests, check-yes, check-no, also-inv, also-yes, also-no, also-true, also-first, also-false, unflag-true, unflag-false, eq-or-ne}
+use Rattle.laws.proofs.Searching.{Passed, passed-none, passed-more, passed-fails, passed-holds}
+use Rattle.laws.proofs.Stores.{store-none, store-more, store-end}
+use Rattle.laws.proofs.Quotients.{times-more}
+use Rattle.view.specs.declared.Etype.{Etype}
+use Rattle.view.specs.declared.Filetype.{Filetype}
+use Rattle.view.specs.Limits.{extentAllowed, displacementAllowed}
+use Rattle.view.specs.Types.{entries, widthAt}
+use Rattle.view.specs.Rules.{entryAllowed, entriesAllowed}
+use Rattle.accept.specs.Answers.{lentType}
+use Rattle.accept.specs.Parts.{countsAllowed, entryLent, typeLent, wholeAt, heldEtype, entryShifted, builtAt, groupsBuilt, groupOrigin, heldFiletype}
+
+-- ---- the flags of checks 3 to 6
+
+module _ (z : ℤ) (t : Bool) (f : SFits w64 z) where
+  pub displacement-yes : t ≡ displacementAllowed (toZ w64 (ofZ w64 z)) → not t ≡ false → displacementAllowed z ≡ true
+  displacement-yes e n = unflag-true t _ (e ∙ ap displacementAllowed (toZ-ofZ f)) n
+
+  pub displacement-no : t ≡ displacementAllowed (toZ w64 (ofZ w64 z)) → not t ≡ true → displacementAllowed z ≡ false
+  displacement-no e n = unflag-false t _ (e ∙ ap displacementAllowed (toZ-ofZ f)) n
+
+  pub extent-yes : t ≡ extentAllowed (toZ w64 (ofZ w64 z)) → not t ≡ false → extentAllowed z ≡ true
+  extent-yes e n = unflag-true t _ (e ∙ ap extentAllowed (toZ-ofZ f)) n
+
+  pub extent-no : t ≡ extentAllowed (toZ w64 (ofZ w64 z)) → not t ≡ true → extentAllowed z ≡ false
+  extent-no e n = unflag-false t _ (e ∙ ap extentAllowed (toZ-ofZ f)) n
+
+module _ (ws : List ℕ) (ds : List ℤ) (x : ℤ) (t : Bool) (e : t ≡ all (typeLent ws ds) (length ws)) where
+  lent : t ≡ entriesAllowed (lentType ws ds x)
+  unfolding entriesAllowed entryAllowed entries widthAt typeLent entryLent
+  lent = e
+
+  pub entries-yes : not t ≡ false → entriesAllowed (lentType ws ds x) ≡ true
+  entries-yes n = unflag-true t _ lent n
+
+  pub entries-no : not t ≡ true → entriesAllowed (lentType ws ds x) ≡ false
+  entries-no n = unflag-false t _ lent n
+
+module _ (a b c d : ℕ) (t : Bool) (e : t ≡ countsAllowed a b c d) (n : not t ≡ false) where
+  pub etype-pairs : b ≡ a
+  unfolding countsAllowed
+  etype-pairs = sym (eqb-true a b (also-inv _ _ (unflag-true t _ e n) .0))
+
+  pub filetype-pairs : d ≡ c
+  unfolding countsAllowed
+  filetype-pairs = sym (eqb-true c d (also-inv _ _ (also-inv _ _ (unflag-true t _ e n) .1) .0))
+
+pub ruleset passing = (refl, check-yes, also-true, unflag-true, displacement-yes, extent-yes, entries-yes)
+
+-- ---- an entry of a group
+
+pub shift-low : (d ed s : ℕ) → d < ed → false ≡ eqb d (ed + s)
+shift-low d ed s l = sym (ne-eqb d (ed + s) (λ q. omega arith))
+
+pub shift-is : (d ed s : ℕ) → ed ≤ d → eqb (d - ed) s ≡ eqb d (ed + s)
+shift-is d ed s l =
+    ⊎-elim (λ q. eq-eqb (d - ed) s q ∙ sym (eq-eqb d (ed + s) (omega arith))) (λ q. ne-eqb (d - ed) s q ∙ sym (ne-eqb d (ed + s) (λ p. q (omega arith)))) (eq-or-ne (d - ed) s)
+
+pub ruleset shifting = (tests, also-yes, also-no, shift-low, shift-is)
+
+-- ---- groups
+
+module _ (ws ds : List ℕ) (n : ℕ) (fw fd : List ℕ) where
+  module _ (i : ℕ) (t : Bool) (e : t ≡ entryShifted (getD fw i 0) (getD fd i 0) (getD ws (i % n) 0) (getD ds (i % n) 0) (getD fd (i / n * n) 0) (getD ds 0 0)) where
+    pub built-yes : not t ≡ false → builtAt ws ds n fw fd i ≡ true
+    unfolding builtAt
+    built-yes m = unflag-true t _ e m
+
+    pub built-no : not t ≡ true → builtAt ws ds n fw fd i ≡ false
+    unfolding builtAt
+    built-no m = unflag-false t _ e m
+
+  pub groups-uneven : (length fw % n ≡ 0 → ⊥) → false ≡ groupsBuilt ws ds n fw fd
+  unfolding groupsBuilt
+  groups-uneven h = also-no _ _ (ne-eqb _ 0 h)
+
+  pub groups-fail : (i : ℕ) → length fw % n ≡ 0 → Passed (builtAt ws ds n fw fd) i (length fw) → i < length fw → builtAt ws ds n fw fd i ≡ false → false ≡ groupsBuilt ws ds n fw fd
+  unfolding groupsBuilt
+  groups-fail i z s l h = also-yes _ _ false (eq-eqb _ 0 z) (passed-fails _ i (length fw) s l h)
+
+  pub groups-hold : (i : ℕ) → length fw % n ≡ 0 → Passed (builtAt ws ds n fw fd) i (length fw) → length fw ≤ i → true ≡ groupsBuilt ws ds n fw fd
+  unfolding groupsBuilt
+  groups-hold i z s l = also-yes _ _ true (eq-eqb _ 0 z) (passed-holds _ i (length fw) s l)
+
+pub entry-in : (i n : ℕ) → 0 < n → n ≤ 8 → i % n < 8
+entry-in i n s l = omega (arith, mod-lt i {m = n} s)
+
+pub entry-scaled : (j : ℕ) → j < 8 → Fits w64 (j * 8)
+entry-scaled j l = record { fits = omega arith }
+
+pub begin-in : (i n m : ℕ) → i < m → i / n * n < m
+begin-in i n m l = omega (arith, div-mul-le-self i n)
+
+pub begin-fits : (i n m : ℕ) → i < m → m < 2 ^ 64 → Fits w64 (i / n * n)
+begin-fits i n m l h = record { fits = omega (arith, div-mul-le-self i n) }
+
+pub begin-pairs : (i n : ℕ) (a b : List ℕ) → length a ≡ length b → i < length b → i / n * n < length a
+begin-pairs i n a b e l = omega (arith, div-mul-le-self i n)
+
+pub ruleset grouping = (needs, passed-none, passed-more, built-yes, built-no, groups-uneven, groups-fail, groups-hold, entry-in, entry-scaled, begin-in, begin-fits, begin-pairs)
+
+-- ---- the etype's record
+
+pub etype-made : (ws : List ℕ) (ds : List ℤ) (x : ℕ) (a b : List ℕ) → a ≡ front (nth ws) (length ws) (replicate 8 0) → b ≡ front (wholeAt ds) (length ds) (replicate 8 0) → _≡_ {A = Etype} (record { entries = length ws; widths = a; displacements = b; extent = x }) (heldEtype ws ds x)
+unfolding heldEtype
+etype-made ws ds x a b p q = λ i. record { entries = length ws; widths = p i; displacements = q i; extent = x }
+
+-- ---- origins
+
+module _ (g n m : ℕ) (l : g < m / n) where
+  pub group-in : 0 < n → g * n < m
+  group-in s = omega (arith, times-more g n, mul-le-mul-right {m = g + 1} {n = m / n} n (omega arith), div-mul-le-self m n)
+
+  pub group-fits : 0 < n → m < 2 ^ 64 → Fits w64 (g * n)
+  group-fits s h = record { fits = omega (arith, group-in s) }
+
+pub origin-is : (fd : List ℕ) (n first g p : ℕ) → p ≡ getD fd (g * n) 0 - first → p ≡ groupOrigin fd n first g
+unfolding groupOrigin
+origin-is fd n first g p e = e
+
+pub filetype-made : (fd : List ℕ) (n first x k g : ℕ) (ps : List ℕ) → ps ≡ front (groupOrigin fd n first) g (replicate 64 0) → g ≤ k → k ≤ g → k ≡ length fd / n → _≡_ {A = Filetype} (record { instances = k; origins = ps; extent = x }) (heldFiletype fd n first x)
+unfolding heldFiletype
+filetype-made fd n first x k g ps p a b e =
+    let q : g ≡ length fd / n = omega arith in
+    let r : ps ≡ front (groupOrigin fd n first) (length fd / n) (replicate 64 0) = p ∙ ap (λ (z : ℕ). front (groupOrigin fd n first) z (replicate 64 0)) q in
+    λ i. record { instances = e i; origins = r i; extent = x }
+
+pub origin-below : (g k : ℕ) → g < k → k ≤ 64 → g < 64
+origin-below g k l h = omega arith
+
+pub ruleset originating = (needs, store-none, store-more, store-end, group-in, group-fits, origin-is, origin-below)

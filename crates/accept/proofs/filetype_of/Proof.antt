@@ -1,0 +1,74 @@
+-- `filetype_of` stores the origin of each group. Assumes nothing.
+use Prim.Native.Nat.{_-_, _/_, _≤_, _<_}
+use mathlib.Core.Path.{_≡_}
+use lib.ListN.{length}
+use Rattle.laws.specs.Lists.{front}
+use Rattle.accept.specs.Parts.{groupOrigin}
+use Rattle.accept.proofs.Building.{originating, filetype-made}
+use Rattle.accept.proofs.filetype_of.Statement.{statement}
+use Rattle.accept.proofs.filetype_of.Tie as tie
+
+abbrev Inv-loop : tie.InvT-loop
+Inv-loop fd extent n first k origins₀ g₀ origins g = (0 < n) × (k ≤ 64) × (k ≡ length fd / n) × (g ≤ k) × (length origins ≡ 64) × (origins ≡ front (groupOrigin fd n first) g origins₀)
+
+abbrev μ-loop : tie.MeasureT-loop
+μ-loop fd extent n first k origins₀ g₀ origins g = k - g
+
+array-read-first : tie.Need-array-read-first Inv-loop μ-loop
+array-read-first c = search originating
+
+div-k : tie.Need-div-k Inv-loop μ-loop
+div-k c = search originating
+
+loop-holds : tie.Need-loop-holds Inv-loop μ-loop
+loop-holds c = search originating
+
+mul-begin : tie.Need-mul-begin Inv-loop μ-loop
+mul-begin c = search originating
+
+mul-less : tie.Need-mul-less Inv-loop μ-loop
+mul-less c = search originating
+
+shared-slice-read-less : tie.Need-shared-slice-read-less Inv-loop μ-loop
+shared-slice-read-less c = search originating
+
+less-requires : tie.Need-less-requires Inv-loop μ-loop
+less-requires c κs = search originating
+
+mul-origins : tie.Need-mul-origins Inv-loop μ-loop
+mul-origins c = search originating
+
+array-write-origins : tie.Need-array-write-origins Inv-loop μ-loop
+array-write-origins c = search originating
+
+add-g : tie.Need-add-g Inv-loop μ-loop
+add-g c = search originating
+
+loop-less : tie.Need-loop-less Inv-loop μ-loop
+loop-less c = search originating
+
+loop-again : tie.Need-loop-again Inv-loop μ-loop
+loop-again c = search originating
+
+returns : tie.Need-returns Inv-loop μ-loop
+returns c = search filetype-made
+
+pub filetype-of-spec : {M : Type 1} → statement M
+filetype-of-spec =
+    tie.close
+    (tie.spec
+    Inv-loop
+    μ-loop
+    array-read-first
+    div-k
+    loop-holds
+    mul-begin
+    mul-less
+    shared-slice-read-less
+    less-requires
+    mul-origins
+    array-write-origins
+    add-g
+    loop-less
+    loop-again
+    returns)
