@@ -1,2 +1,5 @@
 pub mod Lending
 pub mod Building
+pub mod Shaping
+pub mod Accepting
+pub mod Answering

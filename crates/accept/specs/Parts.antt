@@ -13,7 +13,8 @@ use Rattle.view.specs.declared.Etype.{Etype}
 use Rattle.view.specs.declared.Filetype.{Filetype}
 use Rattle.view.specs.Limits.{widthAllowed, etypeEntriesAllowed, filetypeEntriesAllowed, entryDisplacementAllowed, extentAllowed, displacementAllowed}
 use Rattle.view.specs.Types.{PaperType, PaperView, whole}
-use Rattle.view.specs.Rules.{nativeName, isNative, entriesAllowed, typeOrdered, built, viewHolesFit, apart, allowsWriting}
+use Rattle.view.specs.Rules.{nativeName, isNative, entriesAllowed, ordered, typeOrdered, built, holesFit, viewHolesFit, apart, allowsWriting}
+use Rattle.held.specs.Parts.{EntriesKept, apartHeld}
 
 -- byte i of a representation is that of `native`
 unfoldable pub nativeAt : List ℕ → ℕ → Bool
@@ -53,16 +54,6 @@ rulesRefusal mode v =
     (check (either (not (allowsWriting mode)) (apart v)) 10
     0)))
 
--- what checks 2 to 6 leave
-pub record LimitsKept (v : PaperView) : Type 0 where
-  pub some : 0 < length (v .etype .widths)
-  pub few : length (v .etype .widths) ≤ 8
-  pub pairs : length (v .etype .displacements) ≡ length (v .etype .widths)
-  pub file-some : 0 < length (v .filetype .widths)
-  pub file-few : length (v .filetype .widths) ≤ 256
-  pub file-times : length (v .filetype .widths) ≤ 64 * length (v .etype .widths)
-  pub file-pairs : length (v .filetype .displacements) ≡ length (v .filetype .widths)
-
 -- the etype's record, of n widths and displacements
 unfoldable pub heldEtype : List ℕ → List ℤ → ℕ → Etype
 heldEtype ws ds x = record {
@@ -93,3 +84,23 @@ heldFiletype fd n first x = record {
   origins = front (groupOrigin fd n first) (length fd / n) (replicate 64 0);
   extent = x;
 }
+
+-- checks 7 to 10, on the records and the filetype's lists
+unfoldable pub shapesRefusal : ℕ → Etype → List ℕ → List ℕ → Filetype → ℕ
+shapesRefusal mode e fw fd f =
+    check (also (ordered (nth (e .displacements)) (e .entries)) (ordered (nth fd) (length fd))) 7
+    (check (groupsBuilt (e .widths) (e .displacements) (e .entries) fw fd) 8
+    (check (holesFit (nth (f .origins)) (f .instances) (e .extent) (f .extent)) 9
+    (check (either (not (allowsWriting mode)) (apartHeld e f)) 10
+    0)))
+
+-- what these ask of the records: limits that checks 2 to 6 leave
+pub record ShapesReady (e : Etype) (fw fd : List ℕ) (f : Filetype) : Type 0 where
+  pub entries : EntriesKept (e .entries) (e .widths) (e .displacements)
+  pub extent : 0 < e .extent
+  pub some : 0 < length fw
+  pub pairs : length fd ≡ length fw
+  pub groups : f .instances ≡ length fd / e .entries
+  pub few : f .instances ≤ 64
+  pub small : (g : ℕ) → g < f .instances → nth (f .origins) g ≤ 1048576
+  pub file-extent : f .extent ≤ 1048576

@@ -9,7 +9,7 @@ ghost use Rattle.view.specs.Limits.{displacementAllowed, extentAllowed};
 ghost use Rattle.view.specs.Types.{defaultView};
 ghost use Rattle.view.specs.Rules.{isNative, hold};
 ghost use Rattle.accept.specs.Answers.{lentType, lentView, AcceptedAs};
-ghost use Rattle.accept.specs.Parts.{countsAllowed, entryLent, typeLent, wholeAt, limitsRefusal, heldEtype, entryShifted, groupsBuilt, heldFiletype};
+ghost use Rattle.accept.specs.Parts.{countsAllowed, entryLent, typeLent, wholeAt, limitsRefusal, heldEtype, entryShifted, groupsBuilt, heldFiletype, shapesRefusal, ShapesReady};
 use view::Etype;
 use view::Filetype;
 use view::View;
@@ -267,5 +267,80 @@ fn filetype_of(e: Etype, fd: &[u64], extent: u64) -> Filetype
         instances: k as u64,
         origins: origins,
         extent: extent,
+    }
+}
+
+// The refusal number of checks 7 to 10, or 0. The order of each type comes before the groups, the groups before the holes.
+fn shapes_refusal(mode: u64, e: Etype, fw: &[u64], fd: &[u64], f: Filetype) -> u64
+    requires { ⌜ ShapesReady e (now fw) (now fd) f ⌝ }
+    ensures { λ r. ⌜ r ≡ shapesRefusal mode e (now (fw .entry)) (now (fd .entry)) f ⌝ }
+{
+    let displacements = e.displacements;
+    let n = e.entries as usize;
+    if !held::never_decrease(&displacements[..n]) {
+        return Accepted::ORDER;
+    }
+    if !held::never_decrease(fd) {
+        return Accepted::ORDER;
+    }
+    if !is_built(e, fw, fd) {
+        return Accepted::BUILT;
+    }
+    if !held::holes_fit(f, e.extent) {
+        return Accepted::HOLE;
+    }
+    if !held::writes(mode) {
+        return 0;
+    }
+    if !held::shape_apart(e, f) {
+        return Accepted::OVERLAP;
+    }
+    0
+}
+
+// A refusal, with the default view.
+fn refused(refusal: u64) -> Accepted
+    ensures { λ r. ⌜ (r .refusal ≡ refusal) × (r .view ≡ defaultView) ⌝ }
+{
+    Accepted {
+        refusal: refusal,
+        view: View::linear(),
+    }
+}
+
+// The view that lent lists make, accepted for a mode exactly if document 01's rules hold, or its refusal number.
+pub fn accept(
+    mode: u64,
+    representation: &[u8],
+    displacement: i64,
+    ew: &[u64],
+    ed: &[i64],
+    ex: i64,
+    fw: &[u64],
+    fd: &[i64],
+    fx: i64,
+) -> Accepted
+    ensures { λ r. ⌜ AcceptedAs mode (now (representation .entry)) (lentView displacement (lentType (now (ew .entry)) (now (ed .entry)) ex) (lentType (now (fw .entry)) (now (fd .entry)) fx)) r ⌝ }
+{
+    let limits = limits_refusal(representation, displacement, ew, ed, ex, fw, fd, fx);
+    if limits != 0 {
+        return refused(limits);
+    }
+    let etype = etype_of(ew, ed, view::natural(ex));
+    let mut naturals = [0u64; 256];
+    copy_displacements(fd, &mut naturals);
+    let m = fd.len();
+    let filetype = filetype_of(etype, &naturals[..m], view::natural(fx));
+    let rules = shapes_refusal(mode, etype, fw, &naturals[..m], filetype);
+    if rules != 0 {
+        return refused(rules);
+    }
+    Accepted {
+        refusal: 0,
+        view: View {
+            displacement: view::natural(displacement),
+            etype: etype,
+            filetype: filetype,
+        },
     }
 }

@@ -72,7 +72,7 @@ unfolding hole
 hole-same p q k e f s h zero l = h 0 s
 hole-same p q k e f s h (suc i) l = ⊎-elim (λ b. rw (lt-ltb (suc i) k b, h (suc i) b, h i (omega arith))) (λ b. rw (le-ltb (suc i) k b, h i (omega arith))) (lt-or-le (suc i) k)
 
-holes-same : (p q : ℕ → ℕ) (k e f : ℕ) → 0 < k → ((g : ℕ) → g < k → p g ≡ q g) → holesFit p k e f ≡ holesFit q k e f
+pub holes-same : (p q : ℕ → ℕ) (k e f : ℕ) → 0 < k → ((g : ℕ) → g < k → p g ≡ q g) → holesFit p k e f ≡ holesFit q k e f
 unfolding holesFit
 holes-same p q k e f s h = all-same _ _ (k + 1) (λ i l. rw (hole-same p q k e f s h i l))
 

@@ -125,7 +125,7 @@ unfolding displacementAllowed whole
 displacement-small (pos d) h = leb-true d _ h
 displacement-small (negsuc d) h = omega arith
 
-extent-small : (z : ℤ) → extentAllowed z ≡ true → (1 ≤ whole z) × (whole z ≤ 1048576)
+pub extent-small : (z : ℤ) → extentAllowed z ≡ true → (1 ≤ whole z) × (whole z ≤ 1048576)
 unfolding extentAllowed whole
 extent-small (pos x) h = within-inv 1 1048576 x h
 extent-small (negsuc x) h = not-both h refl

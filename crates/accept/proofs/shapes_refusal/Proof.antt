@@ -1,0 +1,85 @@
+-- `shapes_refusal` follows checks 7 to 10 in their order. Assumes nothing.
+use Rattle.laws.proofs.Booleans.{check-no, also-first, also-false, unflag-false}
+use Rattle.held.proofs.Chains.{upto-field, prefix-field}
+use Rattle.accept.specs.Parts.{shapesRefusal}
+use Rattle.accept.proofs.Shaping.{shaping, prefix-no, instances-some, shape-ready, either-unasked, either-apart, either-overlap}
+use borrow.Author.Needs.{needs}
+use Rattle.accept.proofs.shapes_refusal.Statement.{statement}
+use Rattle.accept.proofs.shapes_refusal.Tie as tie
+
+array-share-prefix-displacements : tie.Need-array-share-prefix-displacements
+array-share-prefix-displacements c = search upto-field
+
+slice-aggregate-never-decrease : tie.Need-slice-aggregate-never-decrease
+slice-aggregate-never-decrease c = search prefix-field
+
+never-decrease-requires : tie.Need-never-decrease-requires
+never-decrease-requires c κs = search needs
+
+returns : tie.Need-returns
+unfolding shapesRefusal
+returns c = search (shaping, check-no, also-first, prefix-no) depth 12
+
+never-decrease-requires-2 : tie.Need-never-decrease-requires-2
+never-decrease-requires-2 c κs = search needs
+
+returns-2 : tie.Need-returns-2
+unfolding shapesRefusal
+returns-2 c = search (shaping, check-no, also-false, unflag-false) depth 12
+
+is-built-requires : tie.Need-is-built-requires
+is-built-requires c κs = search needs
+
+returns-3 : tie.Need-returns-3
+unfolding shapesRefusal
+returns-3 c = search (shaping, check-no, unflag-false) depth 12
+
+holes-fit-requires : tie.Need-holes-fit-requires
+holes-fit-requires c κs =
+    let s = c .before .before .before .before .before .before .before .before .before .before .pre in
+    (instances-some _ _ _ _ s _ (c .before .is-built .ensures) (c .if3 .left), s .few, s .extent)
+
+returns-4 : tie.Need-returns-4
+unfolding shapesRefusal
+returns-4 c = search (shaping, check-no, unflag-false) depth 12
+
+writes-requires : tie.Need-writes-requires
+writes-requires c κs = search needs
+
+returns-5 : tie.Need-returns-5
+unfolding shapesRefusal
+returns-5 c = search (shaping, either-unasked) depth 12
+
+shape-apart-requires : tie.Need-shape-apart-requires
+shape-apart-requires c κs =
+    let b = c .before .before .before .before in
+    let s = b .before .before .before .before .before .before .before .before .before .before .pre in
+    shape-ready _ _ _ _ s _ (b .before .is-built .ensures) (b .if3 .left)
+
+returns-6 : tie.Need-returns-6
+unfolding shapesRefusal
+returns-6 c = search (shaping, check-no, either-overlap) depth 12
+
+returns-7 : tie.Need-returns-7
+unfolding shapesRefusal
+returns-7 c = search (shaping, either-apart) depth 12
+
+pub shapes-refusal-spec : {M : Type 1} → statement M
+shapes-refusal-spec =
+    tie.close
+    (tie.spec
+    array-share-prefix-displacements
+    slice-aggregate-never-decrease
+    never-decrease-requires
+    returns
+    never-decrease-requires-2
+    returns-2
+    is-built-requires
+    returns-3
+    holes-fit-requires
+    returns-4
+    writes-requires
+    returns-5
+    shape-apart-requires
+    returns-6
+    returns-7)
