@@ -59,6 +59,7 @@ impl View {
     pub const MAX_DISPLACEMENT: u64 = 1099511627776;
     pub const MIN_OFFSET: i64 = 0;
     pub const MAX_OFFSET: u64 = 4294967295;
+    pub const MAX_FILE_SIZE: u64 = 1099511627776;
     // The modes of an open, by which overlap is judged.
     pub const MODE_READING: u64 = 1;
     pub const MODE_WRITING: u64 = 2;
