@@ -29,8 +29,10 @@ use Rattle.view.proofs.Holding.{held-at, held-past, hold-same}
 use Rattle.held.specs.Parts.{EntriesKept, apartHeld}
 use Rattle.held.proofs.Whole.{holes-same, apart-same}
 use Rattle.accept.specs.declared.Accepted.{Accepted}
-use Rattle.accept.specs.Answers.{lentType, lentView, acceptAnswer, UnusedZero, AcceptedAs}
-use Rattle.accept.specs.Parts.{countsAllowed, wholeAt, limitsRefusal, rulesRefusal, heldEtype, entryShifted, builtAt, groupsBuilt, groupOrigin, heldFiletype, shapesRefusal, ShapesReady}
+use Rattle.lent.specs.Lists.{lentType, lentView}
+use Rattle.lent.specs.Parts.{countsAllowed, limitsRefusal}
+use Rattle.accept.specs.Answers.{acceptAnswer, UnusedZero, AcceptedAs}
+use Rattle.accept.specs.Parts.{wholeAt, rulesRefusal, heldEtype, entryShifted, builtAt, groupsBuilt, groupOrigin, heldFiletype, shapesRefusal, ShapesReady}
 
 -- ---- a chain with later checks at its end: it passes to them, or it answers as without them
 

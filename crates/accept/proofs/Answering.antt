@@ -20,8 +20,10 @@ use Rattle.view.specs.Types.{PaperView, paper, entries, widthAt, extentOf, whol
 use Rattle.view.specs.Rules.{setRefusal, accepted, hold, instances, origin}
 use Rattle.view.proofs.Holding.{held-past, hold-same}
 use Rattle.accept.specs.declared.Accepted.{Accepted}
-use Rattle.accept.specs.Answers.{lentType, lentView, acceptAnswer, UnusedZero, AcceptedAs}
-use Rattle.accept.specs.Parts.{wholeAt, limitsRefusal, rulesRefusal, heldEtype, heldFiletype, shapesRefusal, ShapesReady}
+use Rattle.lent.specs.Lists.{lentType, lentView}
+use Rattle.lent.specs.Parts.{countsAllowed, limitsRefusal}
+use Rattle.accept.specs.Answers.{acceptAnswer, UnusedZero, AcceptedAs}
+use Rattle.accept.specs.Parts.{wholeAt, rulesRefusal, heldEtype, heldFiletype, shapesRefusal, ShapesReady}
 use Rattle.accept.proofs.Accepting.{Limited, limited, limits-refused, limits-granted, naturalsOf, etype-hold, filetype-hold, shapes-same, ready, groups-few, etype-few, pairs-few, set-accepted}
 
 -- ---- unused places

@@ -1,4 +1,4 @@
--- Checks 2 to 6 as a chain, and how the record of a view is built of lent lists.
+-- How the record of a view is built of lent lists, and how its groups are tested.
 use Prim.Native.Nat.{ℕ, suc, _+_, _-_, _*_, _/_, _%_, _^_, _≤_, _<_}
 use mathlib.Core.Bool.{Bool, true, false, not}
 use mathlib.Core.List.{List}
@@ -6,65 +6,34 @@ use mathlib.Core.Logic.{⊎-elim}
 use mathlib.Core.Path.{_≡_, refl, sym, ap, _∙_}
 use native.Mathlib.Nat.{mod-lt, div-mul-le-self, mul-le-mul-right}
 use native.Mathlib.Omega.{arith}
-use borrow.Author.Needs.{needs}
-use borrow.Author.Tests.{eq-eqb, ne-eqb, eqb-true}
+use borrow.Author.Needs.{needs, sfits-of}
+use borrow.Author.Tests.{eq-eqb, ne-eqb}
 use lib.Dec.{leb, eqb}
 use lib.IntN.{ℤ, pos}
+use lib.Signed.{mag}
 use lib.ListN.{length, getD, replicate}
 use mir.Syntax.{w64}
-use mir.Val.{Fits, SFits, toZ, ofZ}
+use mir.Val.{Fits, toZ, ofZ, hbits}
 use mir.Facts.{toZ-ofZ}
-use Rattle.laws.specs.Checks.{also, check}
+use Rattle.laws.specs.Checks.{also}
 use Rattle.laws.specs.Lists.{nth, front}
 use Rattle.laws.specs.Search.{all}
-use Rattle.laws.proofs.Booleans.{tests, check-yes, check-no, also-inv, also-yes, also-no, also-true, also-first, also-false, unflag-true, unflag-false, eq-or-ne}
+use Rattle.laws.proofs.Booleans.{tests, also-yes, also-no, unflag-true, unflag-false, eq-or-ne}
 use Rattle.laws.proofs.Searching.{Passed, passed-none, passed-more, passed-fails, passed-holds}
 use Rattle.laws.proofs.Stores.{store-none, store-more, store-end}
 use Rattle.laws.proofs.Quotients.{times-more}
 use Rattle.view.specs.declared.Etype.{Etype}
 use Rattle.view.specs.declared.Filetype.{Filetype}
-use Rattle.view.specs.Limits.{extentAllowed, displacementAllowed}
-use Rattle.view.specs.Types.{entries, widthAt}
-use Rattle.view.specs.Rules.{entryAllowed, entriesAllowed}
-use Rattle.accept.specs.Answers.{lentType}
-use Rattle.accept.specs.Parts.{countsAllowed, entryLent, typeLent, wholeAt, heldEtype, entryShifted, builtAt, groupsBuilt, groupOrigin, heldFiletype}
+use Rattle.view.specs.Types.{whole}
+use Rattle.accept.specs.Parts.{wholeAt, heldEtype, entryShifted, builtAt, groupsBuilt, groupOrigin, heldFiletype}
 
--- ---- the flags of checks 3 to 6
+-- ---- copies
 
-module _ (z : ℤ) (t : Bool) (f : SFits w64 z) where
-  pub displacement-yes : t ≡ displacementAllowed (toZ w64 (ofZ w64 z)) → not t ≡ false → displacementAllowed z ≡ true
-  displacement-yes e n = unflag-true t _ (e ∙ ap displacementAllowed (toZ-ofZ f)) n
+pub whole-read : (ds : List ℤ) (i d : ℕ) → mag (getD ds i (pos 0)) < 2 ^ hbits w64 → d ≡ whole (toZ w64 (ofZ w64 (getD ds i (pos 0)))) → d ≡ wholeAt ds i
+unfolding wholeAt
+whole-read ds i d m e = e ∙ ap whole (toZ-ofZ {w = w64} {z = getD ds i (pos 0)} (sfits-of m))
 
-  pub displacement-no : t ≡ displacementAllowed (toZ w64 (ofZ w64 z)) → not t ≡ true → displacementAllowed z ≡ false
-  displacement-no e n = unflag-false t _ (e ∙ ap displacementAllowed (toZ-ofZ f)) n
-
-  pub extent-yes : t ≡ extentAllowed (toZ w64 (ofZ w64 z)) → not t ≡ false → extentAllowed z ≡ true
-  extent-yes e n = unflag-true t _ (e ∙ ap extentAllowed (toZ-ofZ f)) n
-
-  pub extent-no : t ≡ extentAllowed (toZ w64 (ofZ w64 z)) → not t ≡ true → extentAllowed z ≡ false
-  extent-no e n = unflag-false t _ (e ∙ ap extentAllowed (toZ-ofZ f)) n
-
-module _ (ws : List ℕ) (ds : List ℤ) (x : ℤ) (t : Bool) (e : t ≡ all (typeLent ws ds) (length ws)) where
-  lent : t ≡ entriesAllowed (lentType ws ds x)
-  unfolding entriesAllowed entryAllowed entries widthAt typeLent entryLent
-  lent = e
-
-  pub entries-yes : not t ≡ false → entriesAllowed (lentType ws ds x) ≡ true
-  entries-yes n = unflag-true t _ lent n
-
-  pub entries-no : not t ≡ true → entriesAllowed (lentType ws ds x) ≡ false
-  entries-no n = unflag-false t _ lent n
-
-module _ (a b c d : ℕ) (t : Bool) (e : t ≡ countsAllowed a b c d) (n : not t ≡ false) where
-  pub etype-pairs : b ≡ a
-  unfolding countsAllowed
-  etype-pairs = sym (eqb-true a b (also-inv _ _ (unflag-true t _ e n) .0))
-
-  pub filetype-pairs : d ≡ c
-  unfolding countsAllowed
-  filetype-pairs = sym (eqb-true c d (also-inv _ _ (also-inv _ _ (unflag-true t _ e n) .1) .0))
-
-pub ruleset passing = (refl, check-yes, also-true, unflag-true, displacement-yes, extent-yes, entries-yes)
+pub ruleset copying = (needs, store-none, store-more, store-end, whole-read)
 
 -- ---- an entry of a group
 

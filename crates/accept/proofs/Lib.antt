@@ -1,4 +1,3 @@
-pub mod Lending
 pub mod Building
 pub mod Shaping
 pub mod Accepting

@@ -2,20 +2,12 @@
 use Prim.Native.Nat.{ℕ, _≤_, _<_}
 use mathlib.Core.List.{List}
 use mathlib.Core.Path.{_≡_}
-use lib.IntN.{ℤ}
 use Rattle.laws.specs.Checks.{granted}
 use Rattle.laws.specs.Lists.{nth}
 use Rattle.view.specs.declared.View.{View}
-use Rattle.view.specs.Types.{PaperType, PaperView, paper, defaultView}
+use Rattle.view.specs.Types.{PaperView, paper, defaultView}
 use Rattle.view.specs.Rules.{setRefusal, hold}
 use Rattle.accept.specs.declared.Accepted.{Accepted}
-
--- the type that lent lists and an extent are, and the view of two such types
-abbrev pub lentType : List ℕ → List ℤ → ℤ → PaperType
-lentType ws ds x = record { widths = ws; displacements = ds; extent = x }
-
-abbrev pub lentView : ℤ → PaperType → PaperType → PaperView
-lentView d e f = record { displacement = d; etype = e; filetype = f }
 
 -- the refusal number and the view; the default view if refused
 unfoldable pub acceptAnswer : ℕ → List ℕ → PaperView → Accepted

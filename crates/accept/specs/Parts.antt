@@ -11,39 +11,13 @@ use Rattle.laws.specs.Lists.{nth, front}
 use Rattle.laws.specs.Search.{all}
 use Rattle.view.specs.declared.Etype.{Etype}
 use Rattle.view.specs.declared.Filetype.{Filetype}
-use Rattle.view.specs.Limits.{widthAllowed, etypeEntriesAllowed, filetypeEntriesAllowed, entryDisplacementAllowed, extentAllowed, displacementAllowed}
 use Rattle.view.specs.Types.{PaperType, PaperView, whole}
-use Rattle.view.specs.Rules.{nativeName, isNative, entriesAllowed, ordered, typeOrdered, built, holesFit, viewHolesFit, apart, allowsWriting}
+use Rattle.view.specs.Rules.{ordered, typeOrdered, built, holesFit, viewHolesFit, apart, allowsWriting}
 use Rattle.held.specs.Parts.{EntriesKept, apartHeld}
-
--- byte i of a representation is that of `native`
-unfoldable pub nativeAt : List ℕ → ℕ → Bool
-nativeAt r i = eqb (nth r i) (nth nativeName i)
-
--- both types' lists are n and m long, and these counts are allowed
-unfoldable pub countsAllowed : ℕ → ℕ → ℕ → ℕ → Bool
-countsAllowed ew ed fw fd = also (eqb ew ed) (also (eqb fw fd) (also (etypeEntriesAllowed ew) (filetypeEntriesAllowed ew fw)))
-
--- an entry as it is lent
-unfoldable pub entryLent : ℕ → ℤ → Bool
-entryLent w d = also (widthAllowed w) (entryDisplacementAllowed w d)
-
-unfoldable pub typeLent : List ℕ → List ℤ → ℕ → Bool
-typeLent ws ds i = entryLent (nth ws i) (getD ds i (pos 0))
 
 -- displacement i of a list as a natural number
 unfoldable pub wholeAt : List ℤ → ℕ → ℕ
 wholeAt ds i = whole (getD ds i (pos 0))
-
--- checks 2 to 6, and what the later ones say
-unfoldable pub limitsRefusal : List ℕ → PaperView → ℕ → ℕ
-limitsRefusal representation v later =
-    check (isNative representation) 2
-    (check (displacementAllowed (v .displacement)) 3
-    (check (countsAllowed (length (v .etype .widths)) (length (v .etype .displacements)) (length (v .filetype .widths)) (length (v .filetype .displacements))) 4
-    (check (also (extentAllowed (v .etype .extent)) (extentAllowed (v .filetype .extent))) 5
-    (check (also (entriesAllowed (v .etype)) (entriesAllowed (v .filetype))) 6
-    later))))
 
 -- checks 7 to 10
 unfoldable pub rulesRefusal : ℕ → PaperView → ℕ

@@ -4,12 +4,10 @@ ghost use mathlib.Core.Path.{_≡_};
 ghost use Prim.Native.Nat.{_≤_, _<_, _/_};
 ghost use lib.ListN.{length};
 ghost use Rattle.laws.specs.Lists.{front, nth};
-ghost use Rattle.laws.specs.Search.{all};
-ghost use Rattle.view.specs.Limits.{displacementAllowed, extentAllowed};
 ghost use Rattle.view.specs.Types.{defaultView};
-ghost use Rattle.view.specs.Rules.{isNative, hold};
-ghost use Rattle.accept.specs.Answers.{lentType, lentView, AcceptedAs};
-ghost use Rattle.accept.specs.Parts.{countsAllowed, entryLent, typeLent, wholeAt, limitsRefusal, heldEtype, entryShifted, groupsBuilt, heldFiletype, shapesRefusal, ShapesReady};
+ghost use Rattle.lent.specs.Lists.{lentType, lentView};
+ghost use Rattle.accept.specs.Answers.{AcceptedAs};
+ghost use Rattle.accept.specs.Parts.{wholeAt, heldEtype, entryShifted, groupsBuilt, heldFiletype, shapesRefusal, ShapesReady};
 use view::Etype;
 use view::Filetype;
 use view::View;
@@ -21,109 +19,11 @@ pub struct Accepted {
 }
 
 impl Accepted {
-    // Document 01's refusal numbers.
-    pub const REPRESENTATION: u64 = 2;
-    pub const DISPLACEMENT: u64 = 3;
-    pub const COUNTS: u64 = 4;
-    pub const EXTENT: u64 = 5;
-    pub const ENTRY: u64 = 6;
+    // Document 01's refusal numbers of checks 7 to 10; those of 2 to 6 stand in `lent`.
     pub const ORDER: u64 = 7;
     pub const BUILT: u64 = 8;
     pub const HOLE: u64 = 9;
     pub const OVERLAP: u64 = 10;
-}
-
-const NATIVE_LENGTH: usize = 6;
-const NATIVE: [u8; 6] = [110, 97, 116, 105, 118, 101];
-
-// Whether a representation is exactly the six bytes `native`.
-fn is_native(representation: &[u8]) -> bool
-    ensures { λ r. ⌜ r ≡ isNative (now (representation .entry)) ⌝ }
-{
-    if representation.len() != NATIVE_LENGTH {
-        return false;
-    }
-    let mut i = 0;
-    while i < NATIVE_LENGTH {
-        if representation[i] != NATIVE[i] {
-            return false;
-        }
-        i += 1;
-    }
-    true
-}
-
-// Whether a view displacement is in range.
-fn displacement_allowed(d: i64) -> bool
-    ensures { λ r. ⌜ r ≡ displacementAllowed d ⌝ }
-{
-    if d < View::MIN_DISPLACEMENT {
-        return false;
-    }
-    view::natural(d) <= View::MAX_DISPLACEMENT
-}
-
-// Whether an extent is in range. A negative one counts as 0, which is not.
-fn extent_allowed(x: i64) -> bool
-    ensures { λ r. ⌜ r ≡ extentAllowed x ⌝ }
-{
-    let extent = view::natural(x);
-    if extent < View::MIN_EXTENT {
-        return false;
-    }
-    extent <= View::MAX_EXTENT
-}
-
-// Whether each type's two lists have one length, and both entry counts are allowed.
-fn counts_allowed(ew: usize, ed: usize, fw: usize, fd: usize) -> bool
-    ensures { λ r. ⌜ r ≡ countsAllowed ew ed fw fd ⌝ }
-{
-    if ew != ed {
-        return false;
-    }
-    if fw != fd {
-        return false;
-    }
-    let n = ew as u64;
-    if n < View::MIN_ENTRIES {
-        return false;
-    }
-    if View::MAX_ETYPE_ENTRIES < n {
-        return false;
-    }
-    let m = fw as u64;
-    if m < View::MIN_ENTRIES {
-        return false;
-    }
-    if View::MAX_FILETYPE_ENTRIES < m {
-        return false;
-    }
-    m <= View::MAX_INSTANCES * n
-}
-
-// Whether an entry of width `w` at `d` is allowed.
-fn entry_allowed(w: u64, d: i64) -> bool
-    ensures { λ r. ⌜ r ≡ entryLent w d ⌝ }
-{
-    if d < View::MIN_ENTRY_DISPLACEMENT {
-        return false;
-    }
-    held::entry_fits(w, view::natural(d))
-}
-
-// Whether every entry of a type is allowed.
-fn entries_allowed(ws: &[u64], ds: &[i64]) -> bool
-    requires { ⌜ length (now ds) ≡ length (now ws) ⌝ }
-    ensures { λ r. ⌜ r ≡ all (typeLent (now (ws .entry)) (now (ds .entry))) (length (now (ws .entry))) ⌝ }
-{
-    let mut i = 0;
-    while i < ws.len() {
-        if !entry_allowed(ws[i], ds[i]) {
-            return false;
-        }
-        i += 1;
-    }
-    true
 }
 
 // Widths, put at the front of `out`.
@@ -149,43 +49,6 @@ fn copy_displacements(ds: &[i64], out: &mut [u64])
         out[i] = d;
         i += 1;
     }
-}
-
-// The refusal number of checks 2 to 6, each over both types, or 0.
-fn limits_refusal(
-    representation: &[u8],
-    displacement: i64,
-    ew: &[u64],
-    ed: &[i64],
-    ex: i64,
-    fw: &[u64],
-    fd: &[i64],
-    fx: i64,
-) -> u64
-    ensures { λ r. ⌜ r ≡ limitsRefusal (now (representation .entry)) (lentView displacement (lentType (now (ew .entry)) (now (ed .entry)) ex) (lentType (now (fw .entry)) (now (fd .entry)) fx)) 0 ⌝ }
-{
-    if !is_native(representation) {
-        return Accepted::REPRESENTATION;
-    }
-    if !displacement_allowed(displacement) {
-        return Accepted::DISPLACEMENT;
-    }
-    if !counts_allowed(ew.len(), ed.len(), fw.len(), fd.len()) {
-        return Accepted::COUNTS;
-    }
-    if !extent_allowed(ex) {
-        return Accepted::EXTENT;
-    }
-    if !extent_allowed(fx) {
-        return Accepted::EXTENT;
-    }
-    if !entries_allowed(ew, ed) {
-        return Accepted::ENTRY;
-    }
-    if !entries_allowed(fw, fd) {
-        return Accepted::ENTRY;
-    }
-    0
 }
 
 // The etype's record.
@@ -322,7 +185,7 @@ pub fn accept(
 ) -> Accepted
     ensures { λ r. ⌜ AcceptedAs mode (now (representation .entry)) (lentView displacement (lentType (now (ew .entry)) (now (ed .entry)) ex) (lentType (now (fw .entry)) (now (fd .entry)) fx)) r ⌝ }
 {
-    let limits = limits_refusal(representation, displacement, ew, ed, ex, fw, fd, fx);
+    let limits = lent::limits_refusal(representation, displacement, ew, ed, ex, fw, fd, fx);
     if limits != 0 {
         return refused(limits);
     }

@@ -4,7 +4,7 @@ use mathlib.Core.Path.{_≡_}
 use lib.ListN.{length}
 use Rattle.laws.specs.Lists.{front}
 use Rattle.accept.specs.Parts.{wholeAt}
-use Rattle.accept.proofs.Lending.{copying}
+use Rattle.accept.proofs.Building.{copying}
 use Rattle.accept.proofs.copy_displacements.Statement.{statement}
 use Rattle.accept.proofs.copy_displacements.Tie as tie
 

@@ -3,7 +3,7 @@ use Prim.Native.Nat.{_-_, _≤_}
 use mathlib.Core.Path.{_≡_}
 use lib.ListN.{length}
 use Rattle.laws.specs.Lists.{front, nth}
-use Rattle.accept.proofs.Lending.{copying}
+use Rattle.accept.proofs.Building.{copying}
 use Rattle.accept.proofs.copy_widths.Statement.{statement}
 use Rattle.accept.proofs.copy_widths.Tie as tie
 

@@ -1,8 +1,8 @@
 -- `extent_allowed` follows the definition; a negative extent is taken for 0. Assumes nothing.
-use Rattle.accept.proofs.Lending.{signing}
+use Rattle.lent.proofs.Lending.{signing}
 use borrow.Author.Needs.{needs}
-use Rattle.accept.proofs.extent_allowed.Statement.{statement}
-use Rattle.accept.proofs.extent_allowed.Tie as tie
+use Rattle.lent.proofs.extent_allowed.Statement.{statement}
+use Rattle.lent.proofs.extent_allowed.Tie as tie
 
 natural-requires : tie.Need-natural-requires
 natural-requires c κs = search needs

@@ -1,10 +1,10 @@
 -- `counts_allowed` follows the definition along its tests. Assumes nothing.
 use Rattle.view.specs.Limits.{etypeEntriesAllowed, filetypeEntriesAllowed}
-use Rattle.accept.specs.Parts.{countsAllowed}
-use Rattle.accept.proofs.Lending.{counting}
+use Rattle.lent.specs.Parts.{countsAllowed}
+use Rattle.lent.proofs.Lending.{counting}
 use borrow.Author.Needs.{needs}
-use Rattle.accept.proofs.counts_allowed.Statement.{statement}
-use Rattle.accept.proofs.counts_allowed.Tie as tie
+use Rattle.lent.proofs.counts_allowed.Statement.{statement}
+use Rattle.lent.proofs.counts_allowed.Tie as tie
 
 returns : tie.Need-returns
 unfolding countsAllowed etypeEntriesAllowed filetypeEntriesAllowed

@@ -4,10 +4,10 @@ use mathlib.Core.Path.{_≡_}
 use lib.ListN.{length}
 use Rattle.laws.proofs.Searching.{Passed}
 use Rattle.view.specs.Rules.{nativeName}
-use Rattle.accept.specs.Parts.{nativeAt}
-use Rattle.accept.proofs.Lending.{representing}
-use Rattle.accept.proofs.is_native.Statement.{statement}
-use Rattle.accept.proofs.is_native.Tie as tie
+use Rattle.lent.specs.Parts.{nativeAt}
+use Rattle.lent.proofs.Lending.{representing}
+use Rattle.lent.proofs.is_native.Statement.{statement}
+use Rattle.lent.proofs.is_native.Tie as tie
 
 abbrev Inv-loop : tie.InvT-loop
 Inv-loop representation i₀ i = (length representation ≡ 6) × Passed (nativeAt representation) i 6

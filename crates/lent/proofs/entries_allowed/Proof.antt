@@ -3,10 +3,10 @@ use Prim.Native.Nat.{_-_}
 use mathlib.Core.Path.{_≡_}
 use lib.ListN.{length}
 use Rattle.laws.proofs.Searching.{Passed}
-use Rattle.accept.specs.Parts.{typeLent}
-use Rattle.accept.proofs.Lending.{lending}
-use Rattle.accept.proofs.entries_allowed.Statement.{statement}
-use Rattle.accept.proofs.entries_allowed.Tie as tie
+use Rattle.lent.specs.Parts.{typeLent}
+use Rattle.lent.proofs.Lending.{lending}
+use Rattle.lent.proofs.entries_allowed.Statement.{statement}
+use Rattle.lent.proofs.entries_allowed.Tie as tie
 
 abbrev Inv-loop : tie.InvT-loop
 Inv-loop ws ds i₀ i = (length ds ≡ length ws) × Passed (typeLent ws ds) i (length ws)

@@ -1,59 +1,61 @@
 -- `limits_refusal` follows checks 2 to 6 in their order. Assumes nothing.
 use Rattle.laws.proofs.Booleans.{check-no, also-first, also-false, unflag-false}
-use Rattle.accept.specs.Parts.{limitsRefusal}
-use Rattle.accept.proofs.Building.{passing, displacement-no, extent-no, entries-no, etype-pairs, filetype-pairs}
+use Rattle.lent.specs.Parts.{limitsRefusal}
+use Rattle.lent.proofs.Lending.{passing, displacement-no, extent-no, entries-no, etype-pairs, filetype-pairs}
 use borrow.Author.Needs.{needs}
-use Rattle.accept.proofs.limits_refusal.Statement.{statement}
-use Rattle.accept.proofs.limits_refusal.Tie as tie
+use Rattle.lent.proofs.limits_refusal.Statement.{statement}
+use Rattle.lent.proofs.limits_refusal.Tie as tie
 
 is-native-requires : tie.Need-is-native-requires
 is-native-requires c κs = search needs
 
-returns : tie.Need-returns
-unfolding limitsRefusal
-returns c = search (passing, check-no, unflag-false) depth 16
-
 displacement-allowed-requires : tie.Need-displacement-allowed-requires
 displacement-allowed-requires c κs = search needs
-
-returns-2 : tie.Need-returns-2
-unfolding limitsRefusal
-returns-2 c = search (passing, check-no, displacement-no) depth 16
 
 counts-allowed-requires : tie.Need-counts-allowed-requires
 counts-allowed-requires c κs = search needs
 
-returns-3 : tie.Need-returns-3
-unfolding limitsRefusal
-returns-3 c = search (passing, check-no, unflag-false) depth 16
-
 extent-allowed-requires : tie.Need-extent-allowed-requires
 extent-allowed-requires c κs = search needs
-
-returns-4 : tie.Need-returns-4
-unfolding limitsRefusal
-returns-4 c = search (passing, check-no, also-first, extent-no) depth 16
 
 extent-allowed-requires-2 : tie.Need-extent-allowed-requires-2
 extent-allowed-requires-2 c κs = search needs
 
+returns : tie.Need-returns
+unfolding limitsRefusal
+returns c = search (passing, check-no, unflag-false) depth 16 fits 20000
+
+returns-2 : tie.Need-returns-2
+unfolding limitsRefusal
+returns-2 c = search (passing, check-no, displacement-no) depth 16 fits 20000
+
+returns-3 : tie.Need-returns-3
+unfolding limitsRefusal
+returns-3 c = search (passing, check-no, unflag-false) depth 16 fits 20000
+
+returns-4 : tie.Need-returns-4
+unfolding limitsRefusal
+returns-4 c = search (passing, check-no, also-first, extent-no) depth 16 fits 20000
+
 returns-5 : tie.Need-returns-5
 unfolding limitsRefusal
-returns-5 c = search (passing, check-no, also-false, extent-no) depth 16
+returns-5 c = search (passing, check-no, also-false, extent-no) depth 16 fits 20000
 
 entries-allowed-requires : tie.Need-entries-allowed-requires
 entries-allowed-requires c κs =
-    let e = c .before .before .before .before in
-    etype-pairs _ _ _ _ _ (e .before .counts-allowed .ensures) (e .if3 .left)
+    let e = c .before .before in
+    let n = e .before .before .before .before .before in
+    etype-pairs _ _ _ _ _ (n .counts-allowed .ensures) (e .if3 .left)
 
 returns-6 : tie.Need-returns-6
 unfolding limitsRefusal
-returns-6 c = search (passing, check-no, also-first, entries-no) depth 16
+returns-6 c = search (passing, check-no, also-first, entries-no) depth 16 fits 20000
 
 entries-allowed-requires-2 : tie.Need-entries-allowed-requires-2
 entries-allowed-requires-2 c κs =
-    let e = c .before .before .before .before .before .before in
-    filetype-pairs _ _ _ _ _ (e .before .counts-allowed .ensures) (e .if3 .left)
+    let e = c .before .before .before .before in
+    let n = e .before .before .before .before .before in
+    filetype-pairs _ _ _ _ _ (n .counts-allowed .ensures) (e .if3 .left)
 
 returns-7 : tie.Need-returns-7
 unfolding limitsRefusal
@@ -68,14 +70,14 @@ limits-refusal-spec =
     tie.close
     (tie.spec
     is-native-requires
-    returns
     displacement-allowed-requires
-    returns-2
     counts-allowed-requires
-    returns-3
     extent-allowed-requires
-    returns-4
     extent-allowed-requires-2
+    returns
+    returns-2
+    returns-3
+    returns-4
     returns-5
     entries-allowed-requires
     returns-6

@@ -6,7 +6,7 @@ use mathlib.Core.Path.{_≡_, refl, sym, ap, _∙_}
 use native.Mathlib.Nat.{lt-of-lt-of-le}
 use native.Mathlib.Omega.{arith}
 use borrow.Author.Needs.{needs, sfits-of}
-use borrow.Author.Tests.{ltb-true, le-leb, lt-leb, eq-eqb, ne-eqb, not-true, not-false}
+use borrow.Author.Tests.{ltb-true, eqb-true, le-leb, lt-leb, eq-eqb, ne-eqb, not-true, not-false}
 use lib.Dec.{leb, ltb, eqb}
 use lib.IntN.{ℤ, pos, negsuc}
 use lib.ListN.{length, getD}
@@ -17,14 +17,14 @@ use mir.Facts.{toZ-ofZ}
 use Rattle.laws.specs.Checks.{also, within}
 use Rattle.laws.specs.Lists.{nth, front}
 use Rattle.laws.specs.Search.{all}
-use Rattle.laws.proofs.Booleans.{tests, also-yes, also-no, also-false, also-true, within-low, within-high, within-yes, unflag-true, unflag-false}
+use Rattle.laws.proofs.Booleans.{tests, check-yes, check-no, also-inv, also-yes, also-no, also-first, also-false, also-true, within-low, within-high, within-yes, unflag-true, unflag-false}
 use Rattle.laws.proofs.Searching.{Passed, passed-none, passed-more, passed-fails, passed-holds}
-use Rattle.laws.proofs.Stores.{store-none, store-more, store-end}
 use Rattle.view.specs.Limits.{widthAllowed, etypeEntriesAllowed, filetypeEntriesAllowed, entryDisplacementAllowed, extentAllowed, displacementAllowed}
-use Rattle.view.specs.Types.{whole}
-use Rattle.view.specs.Rules.{nativeName, isNative}
+use Rattle.view.specs.Types.{entries, widthAt, whole}
+use Rattle.view.specs.Rules.{nativeName, isNative, entryAllowed, entriesAllowed}
+use Rattle.lent.specs.Lists.{lentType}
 use Rattle.held.specs.Parts.{entryFits}
-use Rattle.accept.specs.Parts.{nativeAt, countsAllowed, entryLent, typeLent, wholeAt}
+use Rattle.lent.specs.Parts.{nativeAt, countsAllowed, entryLent, typeLent}
 
 -- ---- the representation
 
@@ -131,10 +131,39 @@ module _ (ws : List ℕ) (ds : List ℤ) (i : ℕ) (t : Bool) (m : mag (getD ds 
 
 pub ruleset lending = (needs, passed-none, passed-more, passed-fails, passed-holds, lent-yes, lent-no)
 
--- ---- copies
+-- ---- the flags of checks 3 to 6
 
-pub whole-read : (ds : List ℤ) (i d : ℕ) → mag (getD ds i (pos 0)) < 2 ^ hbits w64 → d ≡ whole (toZ w64 (ofZ w64 (getD ds i (pos 0)))) → d ≡ wholeAt ds i
-unfolding wholeAt
-whole-read ds i d m e = e ∙ ap whole (toZ-ofZ {w = w64} {z = getD ds i (pos 0)} (sfits-of m))
+module _ (z : ℤ) (t : Bool) (f : SFits w64 z) where
+  pub displacement-yes : t ≡ displacementAllowed (toZ w64 (ofZ w64 z)) → not t ≡ false → displacementAllowed z ≡ true
+  displacement-yes e n = unflag-true t _ (e ∙ ap displacementAllowed (toZ-ofZ f)) n
 
-pub ruleset copying = (needs, store-none, store-more, store-end, whole-read)
+  pub displacement-no : t ≡ displacementAllowed (toZ w64 (ofZ w64 z)) → not t ≡ true → displacementAllowed z ≡ false
+  displacement-no e n = unflag-false t _ (e ∙ ap displacementAllowed (toZ-ofZ f)) n
+
+  pub extent-yes : t ≡ extentAllowed (toZ w64 (ofZ w64 z)) → not t ≡ false → extentAllowed z ≡ true
+  extent-yes e n = unflag-true t _ (e ∙ ap extentAllowed (toZ-ofZ f)) n
+
+  pub extent-no : t ≡ extentAllowed (toZ w64 (ofZ w64 z)) → not t ≡ true → extentAllowed z ≡ false
+  extent-no e n = unflag-false t _ (e ∙ ap extentAllowed (toZ-ofZ f)) n
+
+module _ (ws : List ℕ) (ds : List ℤ) (x : ℤ) (t : Bool) (e : t ≡ all (typeLent ws ds) (length ws)) where
+  lent : t ≡ entriesAllowed (lentType ws ds x)
+  unfolding entriesAllowed entryAllowed entries widthAt typeLent entryLent
+  lent = e
+
+  pub entries-yes : not t ≡ false → entriesAllowed (lentType ws ds x) ≡ true
+  entries-yes n = unflag-true t _ lent n
+
+  pub entries-no : not t ≡ true → entriesAllowed (lentType ws ds x) ≡ false
+  entries-no n = unflag-false t _ lent n
+
+module _ (a b c d : ℕ) (t : Bool) (e : t ≡ countsAllowed a b c d) (n : not t ≡ false) where
+  pub etype-pairs : b ≡ a
+  unfolding countsAllowed
+  etype-pairs = sym (eqb-true a b (also-inv _ _ (unflag-true t _ e n) .0))
+
+  pub filetype-pairs : d ≡ c
+  unfolding countsAllowed
+  filetype-pairs = sym (eqb-true c d (also-inv _ _ (also-inv _ _ (unflag-true t _ e n) .1) .0))
+
+pub ruleset passing = (refl, check-yes, also-true, unflag-true, displacement-yes, extent-yes, entries-yes)
