@@ -3,20 +3,20 @@ use Prim.Native.Nat.{ℕ, suc, _+_, _-_, _*_, _/_, _%_, _≤_, _<_}
 use mathlib.Core.Bool.{Bool, true, false, not}
 use mathlib.Core.Logic.{_⊎_, inl, inr, ⊎-elim}
 use mathlib.Core.Path.{_≡_, refl, sym, ap, _∙_, subst}
-use native.Mathlib.Nat.{div-add-mod', mul-le-mul-right, le-of-mul-le-mul-right, mod-lt, eq-zero-or-pos, zero-mul, div-mul-le-self, mul-div-cancel, mul-mod-left, mul-lt-mul-of-pos-right}
+use native.Mathlib.Nat.{div-add-mod', mul-le-mul-right, le-of-mul-le-mul-right, mod-lt, eq-zero-or-pos, zero-mul, div-mul-le-self, mul-div-cancel, mul-mod-left, mul-lt-mul-of-pos-right, add-zero}
 use native.Mathlib.Omega.{arith}
-use borrow.Author.Tests.{leb-true, eqb-true, eq-eqb}
+use borrow.Author.Tests.{leb-true, le-leb, eqb-true, eq-eqb}
 use lib.Dec.{lit<, leb, eqb}
 use lib.IntN.{ℤ, pos, negsuc}
 use lib.ListN.{length, getD}
 use Rattle.laws.specs.Checks.{also, either, within, check}
 use Rattle.laws.specs.Search.{all}
 use Rattle.laws.proofs.Booleans.{check-inv, check-zero, also-true, also-inv, either-inv, either-left, within-inv, not-both}
-use Rattle.laws.proofs.Searching.{all-at}
-use Rattle.laws.proofs.Quotients.{run-below, run-div, run-mod}
+use Rattle.laws.proofs.Searching.{all-at, all-intro}
+use Rattle.laws.proofs.Quotients.{run-below, runs-below, run-div, run-mod}
 use Rattle.view.specs.Limits.{widthAllowed, etypeEntriesAllowed, filetypeEntriesAllowed, entryDisplacementAllowed, extentAllowed, displacementAllowed}
 use Rattle.view.specs.Types.{PaperType, PaperView, entries, widthAt, displacementAt, extentOf, whole}
-use Rattle.view.specs.Rules.{paired, entryAllowed, entriesAllowed, ordered, typeOrdered, instances, origin, entryBuilt, built, viewHolesFit, apart, allowsWriting, viewRefusal, accepted, Kept}
+use Rattle.view.specs.Rules.{paired, entryAllowed, entriesAllowed, ordered, typeOrdered, instances, origin, IsBuilt, entryBuilt, built, viewHolesFit, apart, allowsWriting, viewRefusal, accepted, Kept}
 
 -- ---- the rules one by one
 
@@ -183,6 +183,47 @@ built-groups : (v : PaperView) → built v ≡ true → instances v * entries (v
 unfolding built instances
 built-groups v h = omega (arith, div-add-mod' (entries (v .filetype)) (entries (v .etype)), eqb-true (entries (v .filetype) % entries (v .etype)) 0 (also-inv _ _ h .0))
 
+module _ (v : PaperView) (h : built v ≡ true) (g e : ℕ) (lg : g < instances v) (le : e < entries (v .etype)) where
+  group-index : g * entries (v .etype) + e < entries (v .filetype)
+  group-index = omega (arith, run-below (instances v) (entries (v .etype)) g e lg le, built-groups v h)
+
+  group-entry : (widthAt (v .filetype) (g * entries (v .etype) + e) ≡ widthAt (v .etype) e) × (displacementAt (v .filetype) (g * entries (v .etype) + e) ≡ displacementAt (v .etype) e + origin v g)
+  group-entry =
+      let a = entry-built-inv v (g * entries (v .etype) + e) (built-entry v h (g * entries (v .etype) + e) group-index) in
+      let d = run-div (entries (v .etype)) g e le in
+      let m = run-mod (entries (v .etype)) g e le in
+      (rw m at (a .0), rw (d, m) at (a .1))
+
+-- the test of the groups says what the paper says of them, and nothing else passes it; the shift is the origin
+pub built-is : (v : PaperView) → built v ≡ true → IsBuilt v
+built-is v h = record {
+  groups = instances v;
+  whole-groups = built-groups v h;
+  shift = origin v;
+  widths = λ g e lg le. group-entry v h g e lg le .0;
+  displacements = λ g e lg le. group-entry v h g e lg le .1;
+}
+
+module _ (v : PaperView) (some : 0 < entries (v .etype)) (b : IsBuilt v) where
+  shift-is : (g : ℕ) → g < b .groups → origin v g ≡ b .shift g
+  unfolding origin
+  shift-is g l = omega (arith, b .displacements g 0 l some, ap (displacementAt (v .filetype)) (add-zero (g * entries (v .etype))))
+
+  entry-shifted : (i : ℕ) → i < entries (v .filetype) → entryBuilt v i ≡ true
+  unfolding entryBuilt
+  entry-shifted i l =
+      let g = runs-below (b .groups) (entries (v .etype)) i some (omega (arith, b .whole-groups)) in
+      let e = mod-lt i {m = entries (v .etype)} some in
+      let q = div-add-mod' i (entries (v .etype)) in
+      let w : widthAt (v .filetype) i ≡ widthAt (v .etype) (i % entries (v .etype)) = ap (widthAt (v .filetype)) (sym q) ∙ b .widths (i / entries (v .etype)) (i % entries (v .etype)) g e in
+      let d : displacementAt (v .filetype) i ≡ displacementAt (v .etype) (i % entries (v .etype)) + origin v (i / entries (v .etype)) = omega (arith, ap (displacementAt (v .filetype)) q, b .displacements (i / entries (v .etype)) (i % entries (v .etype)) g e, shift-is (i / entries (v .etype)) g) in
+      let f : displacementAt (v .etype) 0 ≤ displacementAt (v .filetype) (i / entries (v .etype) * entries (v .etype)) = omega (arith, b .displacements (i / entries (v .etype)) 0 g some, ap (displacementAt (v .filetype)) (add-zero (i / entries (v .etype) * entries (v .etype)))) in
+      also-true (eq-eqb _ _ w) (also-true (le-leb _ _ f) (eq-eqb _ _ d))
+
+  pub built-only : built v ≡ true
+  unfolding built
+  built-only = also-true (eq-eqb _ 0 (ap (λ (z : ℕ). z % entries (v .etype)) (sym (b .whole-groups)) ∙ mul-mod-left (b .groups) (entries (v .etype)))) (all-intro (entryBuilt v) (entries (v .filetype)) entry-shifted)
+
 module _ (v : PaperView) (r : Rules 1 v) where
   counts : (0 < entries (v .etype)) × (entries (v .etype) ≤ 8)
   unfolding etypeEntriesAllowed
@@ -199,17 +240,6 @@ module _ (v : PaperView) (r : Rules 1 v) where
   unfolding extentOf
   extents = (extent-small (v .etype .extent) (r .etype-extent), extent-small (v .filetype .extent) (r .filetype-extent))
 
-  module _ (g e : ℕ) (lg : g < instances v) (le : e < entries (v .etype)) where
-    group-index : g * entries (v .etype) + e < entries (v .filetype)
-    group-index = omega (arith, run-below (instances v) (entries (v .etype)) g e lg le, built-groups v (r .is-built))
-
-    group-entry : (widthAt (v .filetype) (g * entries (v .etype) + e) ≡ widthAt (v .etype) e) × (displacementAt (v .filetype) (g * entries (v .etype) + e) ≡ displacementAt (v .etype) e + origin v g)
-    group-entry =
-        let a = entry-built-inv v (g * entries (v .etype) + e) (built-entry v (r .is-built) (g * entries (v .etype) + e) group-index) in
-        let d = run-div (entries (v .etype)) g e le in
-        let m = run-mod (entries (v .etype)) g e le in
-        (rw m at (a .0), rw (d, m) at (a .1))
-
   pub rules-facts : Facts v
   rules-facts = record {
     start = displacement-small (v .displacement) (r .displacement);
@@ -223,8 +253,8 @@ module _ (v : PaperView) (r : Rules 1 v) where
     ends = λ i l. type-entry (v .etype) (r .etype-allowed) i l .1;
     file-ends = λ i l. type-entry (v .filetype) (r .filetype-allowed) i l .1;
     groups = built-groups v (r .is-built);
-    group-width = λ g e lg le. group-entry g e lg le .0;
-    group-displacement = λ g e lg le. group-entry g e lg le .1;
+    group-width = λ g e lg le. group-entry v (r .is-built) g e lg le .0;
+    group-displacement = λ g e lg le. group-entry v (r .is-built) g e lg le .1;
   }
 
 pub facts : (v : PaperView) → Kept v → Facts v

@@ -6,10 +6,10 @@ use native.Mathlib.Omega.{arith}
 use lib.IntN.{ℤ, pos}
 use lib.ListN.{length, getD}
 use Rattle.laws.specs.Lists.{nth, tabulate}
-use Rattle.laws.proofs.Stores.{length-tabulate, tabulate-at}
-use Rattle.laws.proofs.Quotients.{run-below}
+use Rattle.laws.proofs.Stores.{length-tabulate, tabulate-at, tabulate-same}
+use Rattle.laws.proofs.Quotients.{run-below, runs-below}
 use Rattle.view.specs.declared.View.{View}
-use Rattle.view.specs.Types.{paper, entries, widthAt, displacementAt, extentOf, whole}
+use Rattle.view.specs.Types.{paper, SameView, entries, widthAt, displacementAt, extentOf, whole}
 use Rattle.view.specs.Rules.{instances, origin, paired}
 use Rattle.view.specs.Places.{place}
 
@@ -77,3 +77,22 @@ module _ (v : View) where
     pub paper-place : 0 < v .filetype .instances → (o : ℕ) → place (paper v) o ≡ v .displacement + o / v .filetype .instances * v .filetype .extent + nth (v .filetype .origins) (o % v .filetype .instances)
     unfolding place
     paper-place h o = rw (paper-instances, paper-start, paper-file-extent, paper-origin (o % v .filetype .instances) (mod-lt o {m = v .filetype .instances} h))
+
+-- records that agree in the places in use hold the same view: what the other places hold plays no part
+module _ (v w : View) (start : v .displacement ≡ w .displacement) (count : v .etype .entries ≡ w .etype .entries) (more : v .filetype .instances ≡ w .filetype .instances) (extent : v .etype .extent ≡ w .etype .extent) (file-extent : v .filetype .extent ≡ w .filetype .extent) (some : 0 < v .etype .entries) (ws : (i : ℕ) → i < v .etype .entries → nth (v .etype .widths) i ≡ nth (w .etype .widths) i) (ds : (i : ℕ) → i < v .etype .entries → nth (v .etype .displacements) i ≡ nth (w .etype .displacements) i) (ps : (i : ℕ) → i < v .filetype .instances → nth (v .filetype .origins) i ≡ nth (w .filetype .origins) i) where
+  pub in-use-same : SameView v w
+  unfolding SameView paper
+  in-use-same =
+      let n = v .etype .entries in
+      let k = v .filetype .instances in
+      let a = tabulate-same (λ i. nth (v .etype .widths) i) (λ i. nth (w .etype .widths) i) n ws ∙ ap (tabulate (λ i. nth (w .etype .widths) i)) count in
+      let b = tabulate-same (λ i. pos (nth (v .etype .displacements) i)) (λ i. pos (nth (w .etype .displacements) i)) n (λ i l. ap pos (ds i l)) ∙ ap (tabulate (λ i. pos (nth (w .etype .displacements) i))) count in
+      let c = tabulate-same (λ i. nth (v .etype .widths) (i % v .etype .entries)) (λ i. nth (w .etype .widths) (i % v .etype .entries)) (k * n) (λ i l. ws (i % v .etype .entries) (mod-lt i {m = v .etype .entries} some)) in
+      let d = tabulate-same (λ i. pos (nth (v .filetype .origins) (i / v .etype .entries) + nth (v .etype .displacements) (i % v .etype .entries))) (λ i. pos (nth (w .filetype .origins) (i / v .etype .entries) + nth (w .etype .displacements) (i % v .etype .entries))) (k * n) (λ i l. ap pos (omega (arith, ps (i / v .etype .entries) (runs-below (v .filetype .instances) (v .etype .entries) i some l), ds (i % v .etype .entries) (mod-lt i {m = v .etype .entries} some)))) in
+      let c2 = c ∙ (λ j. tabulate (λ i. nth (w .etype .widths) (i % count j)) (more j * count j)) in
+      let d2 = d ∙ (λ j. tabulate (λ i. pos (nth (w .filetype .origins) (i / count j) + nth (w .etype .displacements) (i % count j))) (more j * count j)) in
+      λ j. record {
+        displacement = pos (start j);
+        etype = record { widths = a j; displacements = b j; extent = pos (extent j) };
+        filetype = record { widths = c2 j; displacements = d2 j; extent = pos (file-extent j) };
+      }

@@ -1,5 +1,5 @@
 -- Document 01, "When a view is accepted", and refusals 2 to 10.
-use Prim.Native.Nat.{ℕ, zero, suc, _+_, _-_, _*_, _/_, _%_}
+use Prim.Native.Nat.{ℕ, zero, suc, _+_, _-_, _*_, _/_, _%_, _<_}
 use mathlib.Core.Bool.{Bool, true, false, cond, not}
 use mathlib.Core.List.{List, [], _∷_}
 use mathlib.Core.Path.{_≡_}
@@ -51,7 +51,15 @@ instances v = entries (v .filetype) / entries (v .etype)
 unfoldable pub origin : PaperView → ℕ → ℕ
 origin v i = displacementAt (v .filetype) (i * entries (v .etype)) - displacementAt (v .etype) 0
 
--- entry i of the filetype is entry i mod n of the etype, shifted by the origin of its group, which is at least 0
+-- the entries fall into k whole groups of n; each group has the etype's widths and the etype's displacements shifted by one number, at least 0
+pub record IsBuilt (v : PaperView) : Type 0 where
+  pub groups : ℕ
+  pub whole-groups : groups * entries (v .etype) ≡ entries (v .filetype)
+  pub shift : ℕ → ℕ
+  pub widths : (g e : ℕ) → g < groups → e < entries (v .etype) → widthAt (v .filetype) (g * entries (v .etype) + e) ≡ widthAt (v .etype) e
+  pub displacements : (g e : ℕ) → g < groups → e < entries (v .etype) → displacementAt (v .filetype) (g * entries (v .etype) + e) ≡ displacementAt (v .etype) e + shift g
+
+-- how it is tested: entry i of the filetype is entry i mod n of the etype, shifted by the origin of its group, which is at least 0
 unfoldable pub entryBuilt : PaperView → ℕ → Bool
 entryBuilt v i =
     let n = entries (v .etype) in

@@ -1,6 +1,7 @@
 -- Document 01, "A type on paper": types and views as lists and numbers, and the ones that a held record stands for.
 use Prim.Native.Nat.{ℕ, zero, suc, _+_, _*_, _/_, _%_}
 use mathlib.Core.List.{List, [], _∷_}
+use mathlib.Core.Path.{_≡_}
 use lib.IntN.{ℤ, pos, negsuc}
 use lib.ListN.{length, getD, replicate}
 use Rattle.laws.specs.Lists.{tabulate, nth, front}
@@ -56,6 +57,10 @@ paper v =
         extent = pos (v .filetype .extent);
       };
     }
+
+-- views are the same if displacement and the lists and extents of both types are equal (the representation is always `native`), whatever else the records hold
+unfoldable pub SameView : View → View → Type 0
+SameView v w = paper v ≡ paper w
 
 -- the default view: displacement 0, both types one entry of width 1 at 0 with extent 1
 unfoldable pub defaultView : View
