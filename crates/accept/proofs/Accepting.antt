@@ -204,8 +204,8 @@ module _ (v : PaperView) (lim : Limited v) where
   unfolding heldFiletype hold
   filetype-hold =
       let p : front (groupOrigin (naturalsOf (v .filetype .displacements)) (entries (v .etype)) (nth (hold v .etype .displacements) 0)) (length (naturalsOf (v .filetype .displacements)) / entries (v .etype)) (replicate 64 0) ≡ front (origin v) (instances v) (replicate 64 0) =
-          ap (λ (z : ℕ). front (groupOrigin (naturalsOf (v .filetype .displacements)) (entries (v .etype)) (nth (hold v .etype .displacements) 0)) z (replicate 64 0)) same-groups
-          ∙ store-same (λ i. i) (groupOrigin (naturalsOf (v .filetype .displacements)) (entries (v .etype)) (nth (hold v .etype .displacements) 0)) (λ i. i) (origin v) (instances v) (replicate 64 0) (λ k l. refl) same-origin in
+      ap (λ (z : ℕ). front (groupOrigin (naturalsOf (v .filetype .displacements)) (entries (v .etype)) (nth (hold v .etype .displacements) 0)) z (replicate 64 0)) same-groups
+      ∙ store-same (λ i. i) (groupOrigin (naturalsOf (v .filetype .displacements)) (entries (v .etype)) (nth (hold v .etype .displacements) 0)) (λ i. i) (origin v) (instances v) (replicate 64 0) (λ k l. refl) same-origin in
       λ i. record { instances = same-groups i; origins = p i; extent = extentOf (v .filetype) }
 
   -- ---- checks 7 to 10 on the records are those on the lists
@@ -311,6 +311,7 @@ module _ (v : PaperView) (lim : Limited v) where
   origin-small g l =
       let e : nth (front (origin v) (instances v) (replicate 64 0)) g ≡ displacementAt (v .filetype) (g * entries (v .etype)) - displacementAt (v .etype) 0 = held-at (origin v) (instances v) 64 few-instances g l in
       omega (arith, type-entry (v .filetype) (lim .filetype-entries) (g * entries (v .etype)) (omega (arith, group-below g l, file-entries)) .1)
+
   pub ready : ShapesReady (hold v .etype) (v .filetype .widths) (naturalsOf (v .filetype .displacements)) (hold v .filetype)
   unfolding hold extentOf
   ready = record {

@@ -21,8 +21,11 @@ pub struct Accepted {
 impl Accepted {
     // Document 01's refusal numbers of checks 7 to 10; those of 2 to 6 stand in `lent`.
     pub const ORDER: u64 = 7;
+
     pub const BUILT: u64 = 8;
+
     pub const HOLE: u64 = 9;
+
     pub const OVERLAP: u64 = 10;
 }
 
@@ -101,7 +104,14 @@ fn is_built(e: Etype, fw: &[u64], fd: &[u64]) -> bool
         let j = i % n;
         let group = i / n;
         let begin = group * n;
-        if !entry_built(fw[i], fd[i], widths[j], displacements[j], fd[begin], displacements[0]) {
+        if !entry_built(
+            fw[i],
+            fd[i],
+            widths[j],
+            displacements[j],
+            fd[begin],
+            displacements[0],
+        ) {
             return false;
         }
         i += 1;

@@ -15,13 +15,21 @@ pub struct Handle {
 impl Handle {
     // An open that names no mode.
     pub const MODE_UNNAMED: u64 = 0;
+
     pub const MODE_READING: u64 = View::MODE_READING;
+
     pub const MODE_WRITING: u64 = View::MODE_WRITING;
+
     pub const MODE_BOTH: u64 = View::MODE_BOTH;
+
     pub const MAX_POINTER: u64 = 4294967296;
+
     pub const MAX_FILE_LENGTH: u64 = View::MAX_FILE_SIZE;
+
     pub const SEEK_SET: u64 = 0;
+
     pub const SEEK_CURRENT: u64 = 1;
+
     pub const SEEK_END: u64 = 2;
 }
 

@@ -10,12 +10,17 @@ use view::View;
 
 // Document 01's refusal numbers of these checks.
 pub const REPRESENTATION: u64 = 2;
+
 pub const DISPLACEMENT: u64 = 3;
+
 pub const COUNTS: u64 = 4;
+
 pub const EXTENT: u64 = 5;
+
 pub const ENTRY: u64 = 6;
 
 const NATIVE_LENGTH: usize = 6;
+
 const NATIVE: [u8; 6] = [110, 97, 116, 105, 118, 101];
 
 // Whether a representation is exactly the six bytes `native`.

@@ -32,7 +32,17 @@ fn show_places(v: View, mode: u64, size: u64) {
 fn show_words(displacement: i64, ws: &[u64], ds: &[i64], extent: i64, mode: u64, size: u64) {
     let word = [4u64];
     let zero = [0i64];
-    let r = accept::accept(mode, b"native", displacement, &word, &zero, 4, ws, ds, extent);
+    let r = accept::accept(
+        mode,
+        b"native",
+        displacement,
+        &word,
+        &zero,
+        4,
+        ws,
+        ds,
+        extent,
+    );
     io::write_all(STDOUT_FILENO, b"mode ");
     io::print_decimal(STDOUT_FILENO, mode);
     io::write_all(STDOUT_FILENO, b": refusal ");

@@ -91,22 +91,24 @@ reading-only v = refl
 
 -- a view that is accepted for some mode keeps all but overlap's rule
 pub rules-kept : (mode : ℕ) (v : PaperView) → Rules mode v → Kept v
-rules-kept mode v r = record { keeps = rules-accept 1 v (record {
-  displacement = r .displacement;
-  etype-paired = r .etype-paired;
-  filetype-paired = r .filetype-paired;
-  etype-entries = r .etype-entries;
-  filetype-entries = r .filetype-entries;
-  etype-extent = r .etype-extent;
-  filetype-extent = r .filetype-extent;
-  etype-allowed = r .etype-allowed;
-  filetype-allowed = r .filetype-allowed;
-  etype-ordered = r .etype-ordered;
-  filetype-ordered = r .filetype-ordered;
-  is-built = r .is-built;
-  holes = r .holes;
-  overlap = reading-only v;
-}) }
+rules-kept mode v r = record {
+  keeps = rules-accept 1 v (record {
+    displacement = r .displacement;
+    etype-paired = r .etype-paired;
+    filetype-paired = r .filetype-paired;
+    etype-entries = r .etype-entries;
+    filetype-entries = r .filetype-entries;
+    etype-extent = r .etype-extent;
+    filetype-extent = r .filetype-extent;
+    etype-allowed = r .etype-allowed;
+    filetype-allowed = r .filetype-allowed;
+    etype-ordered = r .etype-ordered;
+    filetype-ordered = r .filetype-ordered;
+    is-built = r .is-built;
+    holes = r .holes;
+    overlap = reading-only v;
+  });
+}
 
 pub accepted-kept : (mode : ℕ) (v : PaperView) → accepted mode v ≡ true → Kept v
 accepted-kept mode v h = rules-kept mode v (rules mode v h)

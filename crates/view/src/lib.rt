@@ -41,28 +41,45 @@ pub enum Owner {
 impl View {
     // Document 01's table of limits.
     pub const WIDTH_1: u64 = 1;
+
     pub const WIDTH_2: u64 = 2;
+
     pub const WIDTH_4: u64 = 4;
+
     pub const WIDTH_8: u64 = 8;
+
     pub const MIN_ENTRIES: u64 = 1;
+
     pub const MAX_ETYPE_ENTRIES: u64 = 8;
+
     pub const MAX_FILETYPE_ENTRIES: u64 = 256;
+
     pub const MIN_INSTANCES: u64 = 1;
     // A filetype has at most this many times the etype's entries.
     pub const MAX_INSTANCES: u64 = 64;
+
     pub const MIN_ENTRY_DISPLACEMENT: i64 = 0;
     // An entry's displacement plus its width.
     pub const MAX_ENTRY_END: u64 = 1048576;
+
     pub const MIN_EXTENT: u64 = 1;
+
     pub const MAX_EXTENT: u64 = 1048576;
+
     pub const MIN_DISPLACEMENT: i64 = 0;
+
     pub const MAX_DISPLACEMENT: u64 = 1099511627776;
+
     pub const MIN_OFFSET: i64 = 0;
+
     pub const MAX_OFFSET: u64 = 4294967295;
+
     pub const MAX_FILE_SIZE: u64 = 1099511627776;
     // The modes of an open, by which overlap is judged.
     pub const MODE_READING: u64 = 1;
+
     pub const MODE_WRITING: u64 = 2;
+
     pub const MODE_BOTH: u64 = 3;
 
     // The linear byte stream: displacement 0, both types one entry of width 1 at 0 with extent 1.
