@@ -5,6 +5,7 @@ use mathlib.Core.Path.{_≡_}
 use Rattle.laws.specs.Checks.{granted}
 use Rattle.laws.specs.Lists.{nth}
 use Rattle.view.specs.declared.View.{View}
+use Rattle.view.specs.Limits.{maxEtypeEntries, maxInstances}
 use Rattle.view.specs.Types.{PaperView, paper, defaultView}
 use Rattle.view.specs.Rules.{setRefusal, hold}
 use Rattle.accept.specs.declared.Accepted.{Accepted}
@@ -17,9 +18,9 @@ acceptAnswer mode representation v =
 
 -- the unused places of a held view are 0
 pub record UnusedZero (v : View) : Type 0 where
-  pub widths : (i : ℕ) → v .etype .entries ≤ i → i < 8 → nth (v .etype .widths) i ≡ 0
-  pub displacements : (i : ℕ) → v .etype .entries ≤ i → i < 8 → nth (v .etype .displacements) i ≡ 0
-  pub origins : (i : ℕ) → v .filetype .instances ≤ i → i < 64 → nth (v .filetype .origins) i ≡ 0
+  pub widths : (i : ℕ) → v .etype .entries ≤ i → i < maxEtypeEntries → nth (v .etype .widths) i ≡ 0
+  pub displacements : (i : ℕ) → v .etype .entries ≤ i → i < maxEtypeEntries → nth (v .etype .displacements) i ≡ 0
+  pub origins : (i : ℕ) → v .filetype .instances ≤ i → i < maxInstances → nth (v .filetype .origins) i ≡ 0
 
 -- the whole answer; where it is granted, the record stands for the lent view, entry for entry, with both extents and the displacement
 pub record AcceptedAs (mode : ℕ) (representation : List ℕ) (v : PaperView) (r : Accepted) : Type 0 where

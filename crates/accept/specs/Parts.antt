@@ -11,6 +11,7 @@ use Rattle.laws.specs.Lists.{nth, front}
 use Rattle.laws.specs.Search.{all}
 use Rattle.view.specs.declared.Etype.{Etype}
 use Rattle.view.specs.declared.Filetype.{Filetype}
+use Rattle.view.specs.Limits.{maxEtypeEntries, maxInstances, maxEntryEnd, maxExtent}
 use Rattle.view.specs.Types.{PaperType, PaperView, whole}
 use Rattle.view.specs.Rules.{ordered, typeOrdered, built, holesFit, viewHolesFit, apart, allowsWriting}
 use Rattle.held.specs.Parts.{EntriesKept, apartHeld}
@@ -32,8 +33,8 @@ rulesRefusal mode v =
 unfoldable pub heldEtype : List ℕ → List ℤ → ℕ → Etype
 heldEtype ws ds x = record {
   entries = length ws;
-  widths = front (nth ws) (length ws) (replicate 8 0);
-  displacements = front (wholeAt ds) (length ds) (replicate 8 0);
+  widths = front (nth ws) (length ws) (replicate maxEtypeEntries 0);
+  displacements = front (wholeAt ds) (length ds) (replicate maxEtypeEntries 0);
   extent = x;
 }
 
@@ -55,7 +56,7 @@ groupOrigin fd n first g = nth fd (g * n) - first
 unfoldable pub heldFiletype : List ℕ → ℕ → ℕ → ℕ → Filetype
 heldFiletype fd n first x = record {
   instances = length fd / n;
-  origins = front (groupOrigin fd n first) (length fd / n) (replicate 64 0);
+  origins = front (groupOrigin fd n first) (length fd / n) (replicate maxInstances 0);
   extent = x;
 }
 
@@ -75,6 +76,6 @@ pub record ShapesReady (e : Etype) (fw fd : List ℕ) (f : Filetype) : Type 0 wh
   pub some : 0 < length fw
   pub pairs : length fd ≡ length fw
   pub groups : f .instances ≡ length fd / e .entries
-  pub few : f .instances ≤ 64
-  pub small : (g : ℕ) → g < f .instances → nth (f .origins) g ≤ 1048576
-  pub file-extent : f .extent ≤ 1048576
+  pub few : f .instances ≤ maxInstances
+  pub small : (g : ℕ) → g < f .instances → nth (f .origins) g ≤ maxEntryEnd
+  pub file-extent : f .extent ≤ maxExtent

@@ -4,6 +4,7 @@ ghost use mathlib.Core.Path.{_≡_};
 ghost use Prim.Native.Nat.{_≤_, _<_, _/_};
 ghost use lib.ListN.{length};
 ghost use Rattle.laws.specs.Lists.{front, nth};
+ghost use Rattle.view.specs.Limits.{maxEtypeEntries, maxInstances};
 ghost use Rattle.view.specs.Types.{defaultView};
 ghost use Rattle.lent.specs.Lists.{lentType, lentView};
 ghost use Rattle.accept.specs.Answers.{AcceptedAs};
@@ -56,12 +57,12 @@ fn copy_displacements(ds: &[i64], out: &mut [u64])
 
 // The etype's record.
 fn etype_of(ws: &[u64], ds: &[i64], extent: u64) -> Etype
-    requires { ⌜ (length (now ws) ≤ 8) × (length (now ds) ≡ length (now ws)) ⌝ }
+    requires { ⌜ (length (now ws) ≤ maxEtypeEntries) × (length (now ds) ≡ length (now ws)) ⌝ }
     ensures { λ r. ⌜ r ≡ heldEtype (now (ws .entry)) (now (ds .entry)) extent ⌝ }
 {
-    let mut widths = [0u64; 8];
+    let mut widths = [0u64; View::MAX_ETYPE_ENTRIES as usize];
     copy_widths(ws, &mut widths);
-    let mut displacements = [0u64; 8];
+    let mut displacements = [0u64; View::MAX_ETYPE_ENTRIES as usize];
     copy_displacements(ds, &mut displacements);
     Etype {
         entries: ws.len() as u64,
@@ -90,7 +91,7 @@ fn entry_built(w: u64, d: u64, ew: u64, ed: u64, begin: u64, first: u64) -> bool
 
 // Whether a filetype's entries fall into whole groups, each the etype shifted by one number.
 fn is_built(e: Etype, fw: &[u64], fd: &[u64]) -> bool
-    requires { ⌜ (0 < e .entries) × (e .entries ≤ 8) × (length (now fd) ≡ length (now fw)) ⌝ }
+    requires { ⌜ (0 < e .entries) × (e .entries ≤ maxEtypeEntries) × (length (now fd) ≡ length (now fw)) ⌝ }
     ensures { λ r. ⌜ r ≡ groupsBuilt (e .widths) (e .displacements) (e .entries) (now (fw .entry)) (now (fd .entry)) ⌝ }
 {
     let n = e.entries as usize;
@@ -121,14 +122,14 @@ fn is_built(e: Etype, fw: &[u64], fd: &[u64]) -> bool
 
 // The filetype's record: the origin of each group.
 fn filetype_of(e: Etype, fd: &[u64], extent: u64) -> Filetype
-    requires { ⌜ (0 < e .entries) × (length (now fd) / e .entries ≤ 64) ⌝ }
+    requires { ⌜ (0 < e .entries) × (length (now fd) / e .entries ≤ maxInstances) ⌝ }
     ensures { λ r. ⌜ r ≡ heldFiletype (now (fd .entry)) (e .entries) (nth (e .displacements) 0) extent ⌝ }
 {
     let n = e.entries as usize;
     let displacements = e.displacements;
     let first = displacements[0];
     let k = fd.len() / n;
-    let mut origins = [0u64; 64];
+    let mut origins = [0u64; View::MAX_INSTANCES as usize];
     let mut g = 0;
     while g < k {
         let begin = g * n;
@@ -200,7 +201,7 @@ pub fn accept(
         return refused(limits);
     }
     let etype = etype_of(ew, ed, view::natural(ex));
-    let mut naturals = [0u64; 256];
+    let mut naturals = [0u64; View::MAX_FILETYPE_ENTRIES as usize];
     copy_displacements(fd, &mut naturals);
     let m = fd.len();
     let filetype = filetype_of(etype, &naturals[..m], view::natural(fx));

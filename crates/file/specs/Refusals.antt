@@ -5,7 +5,7 @@ use mathlib.Core.List.{List}
 use lib.Dec.{leb, eqb}
 use lib.IntN.{ℤ, pos, negsuc, _+ℤ_}
 use Rattle.laws.specs.Checks.{also, check}
-use Rattle.view.specs.Limits.{offsetAllowed, pointerAllowed}
+use Rattle.view.specs.Limits.{offsetCount, offsetAllowed, pointerAllowed}
 use Rattle.view.specs.Types.{PaperView, entries, whole}
 use Rattle.view.specs.Rules.{setRefusal, allowsReading, allowsWriting}
 use Rattle.view.specs.Places.{dataSize}
@@ -65,7 +65,7 @@ seekRefusal h len r o whence =
 
 -- 12 of an access: the offset is not negative, and offset + count at most 2^32
 unfoldable pub accessAllowed : ℤ → ℕ → Bool
-accessAllowed (pos o) c = leb (o + c) 4294967296
+accessAllowed (pos o) c = leb (o + c) offsetCount
 accessAllowed (negsuc o) c = false
 
 -- read: 1, 11, 12, 13

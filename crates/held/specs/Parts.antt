@@ -9,21 +9,21 @@ use Rattle.laws.specs.Lists.{nth}
 use Rattle.view.specs.declared.Etype.{Etype}
 use Rattle.view.specs.declared.Filetype.{Filetype}
 use Rattle.view.specs.declared.View.{View}
-use Rattle.view.specs.Limits.{widthAllowed}
+use Rattle.view.specs.Limits.{maxEtypeEntries, maxFiletypeEntries, maxInstances, maxEntryEnd, maxExtent, maxDisplacement, widthAllowed}
 use Rattle.view.specs.Rules.{ordered, hole, holesFit, allowsWriting}
 
 -- ---- the etype, with widths ws and displacements ds
 
 unfoldable pub entryFits : ℕ → ℕ → Bool
-entryFits w d = also (widthAllowed w) (leb (d + w) 1048576)
+entryFits w d = also (widthAllowed w) (leb (d + w) maxEntryEnd)
 
 unfoldable pub entryHeld : List ℕ → List ℕ → ℕ → Bool
 entryHeld ws ds i = entryFits (nth ws i) (nth ds i)
 
 unfoldable pub etypeHeld : Etype → Bool
 etypeHeld e =
-    also (within 1 8 (e .entries))
-    (also (within 1 1048576 (e .extent))
+    also (within 1 maxEtypeEntries (e .entries))
+    (also (within 1 maxExtent (e .extent))
     (also (all (entryHeld (e .widths) (e .displacements)) (e .entries))
     (ordered (nth (e .displacements)) (e .entries))))
 
@@ -34,8 +34,8 @@ entryEnd ws ds i = nth ds i + nth ws i
 -- n entries, each of which ends within the limit
 pub record EntriesKept (n : ℕ) (ws ds : List ℕ) : Type 0 where
   pub some : 0 < n
-  pub few : n ≤ 8
-  pub ends : (i : ℕ) → i < n → entryEnd ws ds i ≤ 1048576
+  pub few : n ≤ maxEtypeEntries
+  pub ends : (i : ℕ) → i < n → entryEnd ws ds i ≤ maxEntryEnd
 
 -- how far the entries reach
 unfoldable pub reachOf : List ℕ → List ℕ → ℕ → ℕ
@@ -53,12 +53,12 @@ lastEnds e = entryEnd (e .widths) (e .displacements) (e .entries - 1)
 -- k origins within the limit
 pub record OriginsKept (k : ℕ) (ps : List ℕ) : Type 0 where
   pub some : 0 < k
-  pub few : k ≤ 64
-  pub small : (g : ℕ) → g < k → nth ps g ≤ 1048576
+  pub few : k ≤ maxInstances
+  pub small : (g : ℕ) → g < k → nth ps g ≤ maxEntryEnd
 
 -- each instance ends within the limit
 unfoldable pub reachAt : List ℕ → ℕ → ℕ → Bool
-reachAt ps reach g = leb (nth ps g + reach) 1048576
+reachAt ps reach g = leb (nth ps g + reach) maxEntryEnd
 
 -- a from the beginning of instance g is at most b from the beginning of the next
 unfoldable pub stepAt : List ℕ → ℕ → ℕ → ℕ → Bool
@@ -73,9 +73,9 @@ holeFits ps k e f i = eqb (hole (nth ps) k e f i % e) 0
 
 unfoldable pub filetypeHeld : Etype → Filetype → Bool
 filetypeHeld e f =
-    also (within 1 64 (f .instances))
-    (also (leb (f .instances * e .entries) 256)
-    (also (within 1 1048576 (f .extent))
+    also (within 1 maxInstances (f .instances))
+    (also (leb (f .instances * e .entries) maxFiletypeEntries)
+    (also (within 1 maxExtent (f .extent))
     (also (all (reachAt (f .origins) (reachOf (e .widths) (e .displacements) (e .entries))) (f .instances))
     (also (originsStep f (lastBegins e) (nth (e .displacements) 0))
     (holesFit (nth (f .origins)) (f .instances) (e .extent) (f .extent))))))
@@ -98,13 +98,13 @@ apartHeld e f =
 pub record ShapeKept (e : Etype) (f : Filetype) : Type 0 where
   pub entries : EntriesKept (e .entries) (e .widths) (e .displacements)
   pub origins : OriginsKept (f .instances) (f .origins)
-  pub extent : f .extent ≤ 1048576
+  pub extent : f .extent ≤ maxExtent
 
 -- ---- the view
 
 unfoldable pub viewHeld : ℕ → View → Bool
 viewHeld mode v =
-    also (leb (v .displacement) 1099511627776)
+    also (leb (v .displacement) maxDisplacement)
     (also (etypeHeld (v .etype))
     (also (filetypeHeld (v .etype) (v .filetype))
     (either (not (allowsWriting mode)) (apartHeld (v .etype) (v .filetype)))))

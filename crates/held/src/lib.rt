@@ -6,7 +6,7 @@ ghost use Prim.Native.Nat.{_≤_, _<_, _-_};
 ghost use lib.ListN.{length};
 ghost use Rattle.laws.specs.Lists.{nth};
 ghost use Rattle.laws.specs.Search.{all};
-ghost use Rattle.view.specs.Limits.{widthAllowed};
+ghost use Rattle.view.specs.Limits.{maxEtypeEntries, maxInstances, maxEntryEnd, widthAllowed};
 ghost use Rattle.view.specs.Types.{paper};
 ghost use Rattle.view.specs.Rules.{ordered, holesFit, allowsWriting, accepted};
 ghost use Rattle.held.specs.Parts.{entryFits, entryHeld, etypeHeld, EntriesKept, reachOf, OriginsKept, reachAt, originsStep, holeFits, filetypeHeld, apartAt, apartHeld, ShapeKept};
@@ -54,7 +54,7 @@ pub fn entry_fits(w: u64, d: u64) -> bool
 }
 
 fn entries_fit(e: Etype) -> bool
-    requires { ⌜ e .entries ≤ 8 ⌝ }
+    requires { ⌜ e .entries ≤ maxEtypeEntries ⌝ }
     ensures { λ r. ⌜ r ≡ all (entryHeld (e .widths) (e .displacements)) (e .entries) ⌝ }
 {
     let n = e.entries as usize;
@@ -109,7 +109,7 @@ fn reach_of(e: Etype) -> u64
 
 // Whether each instance ends within the limit.
 fn instances_fit(f: Filetype, reach: u64) -> bool
-    requires { ⌜ (f .instances ≤ 64) × (reach ≤ 1048576) ⌝ }
+    requires { ⌜ (f .instances ≤ maxInstances) × (reach ≤ maxEntryEnd) ⌝ }
     ensures { λ r. ⌜ r ≡ all (reachAt (f .origins) reach) (f .instances) ⌝ }
 {
     let k = f.instances as usize;
@@ -130,7 +130,7 @@ fn instances_fit(f: Filetype, reach: u64) -> bool
 
 // Whether `a` from the beginning of each instance is at most `b` from the beginning of the next.
 fn instances_step(f: Filetype, a: u64, b: u64) -> bool
-    requires { ⌜ OriginsKept (f .instances) (f .origins) × (a ≤ 1048576) × (b ≤ 1048576) ⌝ }
+    requires { ⌜ OriginsKept (f .instances) (f .origins) × (a ≤ maxEntryEnd) × (b ≤ maxEntryEnd) ⌝ }
     ensures { λ r. ⌜ r ≡ originsStep f a b ⌝ }
 {
     let k = f.instances as usize;
@@ -172,7 +172,7 @@ fn entries_apart(e: Etype) -> bool
 
 // Whether each hole of a filetype is a multiple of the etype's extent `e`. For our own crates.
 pub fn holes_fit(f: Filetype, e: u64) -> bool
-    requires { ⌜ (0 < f .instances) × (f .instances ≤ 64) × (0 < e) ⌝ }
+    requires { ⌜ (0 < f .instances) × (f .instances ≤ maxInstances) × (0 < e) ⌝ }
     ensures { λ r. ⌜ r ≡ holesFit (nth (f .origins)) (f .instances) e (f .extent) ⌝ }
 {
     let k = f.instances as usize;

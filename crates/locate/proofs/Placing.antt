@@ -6,7 +6,7 @@ use mathlib.Core.Path.{_≡_, refl, sym, ap, _∙_}
 use native.Mathlib.Nat.{mul-le-mul, div-le-self, mod-lt, lt-of-lt-of-le}
 use native.Mathlib.Omega.{arith}
 use borrow.Author.Needs.{needs}
-use borrow.Author.Tests.{leb-true, lt-ltb, le-ltb}
+use borrow.Author.Tests.{ltb-true, lt-ltb, le-ltb}
 use lib.IntN.{ℤ, pos, negsuc}
 use lib.ListN.{length, getD}
 use mir.Syntax.{w64}
@@ -27,7 +27,7 @@ use Rattle.view.proofs.Accepted.{Facts, facts, instances-some, instances-few, o
 
 offset-small : (z : ℤ) → offsetAllowed z ≡ true → whole z ≤ 4294967295
 unfolding offsetAllowed whole
-offset-small (pos o) h = leb-true o _ h
+offset-small (pos o) h = omega (arith, ltb-true o 4294967296 h)
 offset-small (negsuc o) h = not-both h refl
 
 -- ---- the end of one instance
@@ -56,7 +56,7 @@ end-on v size i e h = h
 -- the machine's reading of an offset's bits is the offset
 offset-read : (z : ℤ) → offsetAllowed z ≡ true → toZ w64 (ofZ w64 z) ≡ z
 unfolding offsetAllowed
-offset-read (pos o) h = toZ-ofZ {w = w64} {z = pos o} (record { sfits = omega (arith, leb-true o 4294967295 h) })
+offset-read (pos o) h = toZ-ofZ {w = w64} {z = pos o} (record { sfits = omega (arith, ltb-true o 4294967296 h) })
 offset-read (negsuc o) h = not-both h refl
 
 -- an index into the origins, scaled by their width

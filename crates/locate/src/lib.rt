@@ -4,7 +4,7 @@ ghost use mathlib.Core.Bool.{true};
 ghost use mathlib.Core.Path.{_≡_};
 ghost use Prim.Native.Nat.{_≤_, _<_};
 ghost use lib.IntN.{pos};
-ghost use Rattle.view.specs.Limits.{offsetAllowed};
+ghost use Rattle.view.specs.Limits.{maxInstances, maxFileLength, offsetAllowed};
 ghost use Rattle.view.specs.Types.{paper, whole};
 ghost use Rattle.view.specs.Rules.{Kept};
 ghost use Rattle.view.specs.Places.{place};
@@ -31,7 +31,7 @@ pub fn place_of(v: View, o: Offset) -> BytePos
 
 // One past the last offset that is instance `i` of its tile and begins below `size`, or 0.
 fn end_from(start: u64, size: u64, extent: u64, instances: u64, i: u64) -> u64
-    requires { ⌜ (size ≤ 1099511627776) × (instances ≤ 64) × (i < instances) × (0 < extent) ⌝ }
+    requires { ⌜ (size ≤ maxFileLength) × (instances ≤ maxInstances) × (i < instances) × (0 < extent) ⌝ }
     ensures { λ r. ⌜ r ≡ endFrom start size extent instances i ⌝ }
 {
     if start < size {
@@ -47,7 +47,7 @@ fn end_from(start: u64, size: u64, extent: u64, instances: u64, i: u64) -> u64
 
 // End of file in etypes, by one division for each instance: places need not rise with the offset.
 pub fn end_of(v: View, size: u64) -> Offset
-    requires { ⌜ Kept (paper v) × (size ≤ 1099511627776) ⌝ }
+    requires { ⌜ Kept (paper v) × (size ≤ maxFileLength) ⌝ }
     ensures { λ r. ⌜ r .0 ≡ pos (endOfFile (paper v) size) ⌝ }
 {
     let filetype = v.filetype;

@@ -4,7 +4,7 @@ use mathlib.Core.Bool.{Bool, true, false, not}
 use mathlib.Core.Path.{_≡_, refl, sym, ap, _∙_}
 use native.Mathlib.Omega.{arith}
 use borrow.Author.Needs.{needs}
-use borrow.Author.Tests.{le-leb}
+use borrow.Author.Tests.{lt-ltb}
 use lib.IntN.{ℤ, pos}
 use Rattle.laws.proofs.Booleans.{unflag-true}
 use Rattle.view.specs.declared.View.{View}
@@ -18,6 +18,6 @@ tested-kept v mode t e h = accepted-kept mode (paper v) (unflag-true t _ e h)
 
 pub first-allowed : (z : ℤ) (o : ℕ) → z ≡ pos o → o < 5 → offsetAllowed z ≡ true
 unfolding offsetAllowed
-first-allowed z o e l = ap offsetAllowed e ∙ le-leb o 4294967295 (omega arith)
+first-allowed z o e l = ap offsetAllowed e ∙ lt-ltb o 4294967296 (omega arith)
 
 pub ruleset showing = (needs, tested-kept, first-allowed)

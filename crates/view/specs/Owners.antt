@@ -9,13 +9,14 @@ use Rattle.laws.specs.Search.{first}
 use Rattle.view.specs.declared.Offset.{Offset}
 use Rattle.view.specs.declared.Owner.{Owner}
 use Rattle.view.specs.declared.Owner.the-variants.{Pair, Nobody}
+use Rattle.view.specs.Limits.{offsetCount}
 use Rattle.view.specs.Types.{PaperView, entries, widthAt, displacementAt, extentOf, whole}
 use Rattle.view.specs.Rules.{instances}
 use Rattle.view.specs.Places.{byteOf, dataSize, packedBefore}
 
 -- file byte b belongs to the pair of offset x, from 0 to 2^32 - 1, and index j, from 0 to S - 1
 pub record Belongs (v : PaperView) (b x j : ℕ) : Type 0 where
-  pub offset : x < 4294967296
+  pub offset : x < offsetCount
   pub index : j < dataSize v
   pub lies : byteOf v x j ≡ b
 
@@ -42,7 +43,7 @@ unfoldable pub hits : PaperView → ℕ → ℕ → Bool
 hits v b i =
     also (leb (entryStart v i) b)
     (also (ltb ((b - entryStart v i) % extentOf (v .filetype)) (widthAt (v .filetype) i))
-    (ltb (offsetIn v b i) 4294967296))
+    (ltb (offsetIn v b i) offsetCount))
 
 -- the first entry in which it lies
 unfoldable pub hitEntry : PaperView → ℕ → ℕ

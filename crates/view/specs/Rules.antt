@@ -10,7 +10,7 @@ use Rattle.laws.specs.Checks.{also, either, within, check}
 use Rattle.laws.specs.Search.{all}
 use Rattle.laws.specs.Lists.{front, nth}
 use Rattle.view.specs.declared.View.{View}
-use Rattle.view.specs.Limits.{widthAllowed, etypeEntriesAllowed, filetypeEntriesAllowed, entryDisplacementAllowed, extentAllowed, displacementAllowed}
+use Rattle.view.specs.Limits.{maxEtypeEntries, maxInstances, widthAllowed, etypeEntriesAllowed, filetypeEntriesAllowed, entryDisplacementAllowed, extentAllowed, displacementAllowed}
 use Rattle.view.specs.Types.{PaperType, PaperView, entries, widthAt, displacementAt, extentOf, whole, paper}
 
 -- ---- limits
@@ -143,13 +143,13 @@ hold v =
       displacement = whole (v .displacement);
       etype = record {
         entries = n;
-        widths = front (widthAt (v .etype)) n (replicate 8 0);
-        displacements = front (displacementAt (v .etype)) n (replicate 8 0);
+        widths = front (widthAt (v .etype)) n (replicate maxEtypeEntries 0);
+        displacements = front (displacementAt (v .etype)) n (replicate maxEtypeEntries 0);
         extent = extentOf (v .etype);
       };
       filetype = record {
         instances = instances v;
-        origins = front (origin v) (instances v) (replicate 64 0);
+        origins = front (origin v) (instances v) (replicate maxInstances 0);
         extent = extentOf (v .filetype);
       };
     }

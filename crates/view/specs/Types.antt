@@ -1,11 +1,12 @@
 -- Document 01, "A type on paper": types and views as lists and numbers, and the ones that a held record stands for.
-use Prim.Native.Nat.{ℕ, zero, suc, _+_, _*_, _/_, _%_}
+use Prim.Native.Nat.{ℕ, zero, suc, _+_, _-_, _*_, _/_, _%_}
 use mathlib.Core.List.{List, [], _∷_}
 use mathlib.Core.Path.{_≡_}
 use lib.IntN.{ℤ, pos, negsuc}
 use lib.ListN.{length, getD, replicate}
 use Rattle.laws.specs.Lists.{tabulate, nth, front}
 use Rattle.view.specs.declared.View.{View}
+use Rattle.view.specs.Limits.{maxEtypeEntries, maxInstances}
 
 -- a type on paper: a list of widths, a list of signed displacements, and an extent
 pub record PaperType : Type 0 where
@@ -66,6 +67,6 @@ SameView v w = paper v ≡ paper w
 unfoldable pub defaultView : View
 defaultView = record {
   displacement = 0;
-  etype = record { entries = 1; widths = 1 ∷ replicate 7 0; displacements = replicate 8 0; extent = 1 };
-  filetype = record { instances = 1; origins = replicate 64 0; extent = 1 };
+  etype = record { entries = 1; widths = 1 ∷ replicate (maxEtypeEntries - 1) 0; displacements = replicate maxEtypeEntries 0; extent = 1 };
+  filetype = record { instances = 1; origins = replicate maxInstances 0; extent = 1 };
 }

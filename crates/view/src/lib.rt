@@ -14,15 +14,15 @@ pub struct BytePos(pub u64);
 // An etype: the first `entries` places of both lists, and the extent. Places past those mean nothing.
 pub struct Etype {
     pub entries: u64,
-    pub widths: [u64; 8],
-    pub displacements: [u64; 8],
+    pub widths: [u64; View::MAX_ETYPE_ENTRIES as usize],
+    pub displacements: [u64; View::MAX_ETYPE_ENTRIES as usize],
     pub extent: u64,
 }
 
 // A filetype, built of the etype: instance i is the etype shifted by origin i. Places past `instances` mean nothing.
 pub struct Filetype {
     pub instances: u64,
-    pub origins: [u64; 64],
+    pub origins: [u64; View::MAX_INSTANCES as usize],
     pub extent: u64,
 }
 
@@ -86,19 +86,19 @@ impl View {
     pub fn linear() -> View
         ensures { λ r. ⌜ r ≡ defaultView ⌝ }
     {
-        let mut widths = [0u64; 8];
+        let mut widths = [0u64; View::MAX_ETYPE_ENTRIES as usize];
         widths[0] = View::WIDTH_1;
         View {
             displacement: 0,
             etype: Etype {
                 entries: 1,
                 widths: widths,
-                displacements: [0u64; 8],
+                displacements: [0u64; View::MAX_ETYPE_ENTRIES as usize],
                 extent: 1,
             },
             filetype: Filetype {
                 instances: 1,
-                origins: [0u64; 64],
+                origins: [0u64; View::MAX_INSTANCES as usize],
                 extent: 1,
             },
         }
