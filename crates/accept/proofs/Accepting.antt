@@ -1,111 +1,32 @@
--- The records and the chain of acceptance, beside the definitions: what the code builds is `hold`, and its two chains make up `setRefusal`.
-use Prim.Native.Nat.{ℕ, suc, _+_, _-_, _*_, _/_, _%_, _≤_, _<_}
+-- What the code builds is the record of the view, and its checks 7 to 10 are the paper's.
+use Prim.Native.Nat.{ℕ, _+_, _-_, _*_, _/_, _%_, _≤_, _<_}
 use mathlib.Core.Bool.{Bool, true, false, not}
 use mathlib.Core.List.{List}
 use mathlib.Core.Logic.{⊎-elim}
-use mathlib.Core.Path.{_≡_, refl, sym, ap, _∙_, subst}
+use mathlib.Core.Path.{_≡_, refl, sym, ap, _∙_}
 use native.Mathlib.Nat.{mod-lt, div-mul-le-self, mul-le-mul-right, div-add-mod', eq-zero-or-pos, zero-mul, div-lt-iff-lt-mul}
 use native.Mathlib.Omega.{arith}
 use borrow.Author.Tests.{eqb-true, eq-eqb, leb-true}
-use lib.Dec.{eqb, leb, lit<}
-use lib.IntN.{ℤ, pos}
-use lib.ListN.{length, getD, take, replicate, length-replicate}
+use lib.Dec.{eqb}
+use lib.IntN.{ℤ}
+use lib.ListN.{length, take, replicate, length-replicate}
 use lib.Seq.{getD-take, length-take-le}
-use Rattle.laws.specs.Checks.{also, either, check, within, granted}
+use Rattle.laws.specs.Checks.{also, either, check}
 use Rattle.laws.specs.Lists.{nth, front}
-use Rattle.laws.specs.Search.{all}
-use Rattle.laws.proofs.Booleans.{check-inv, also-inv, within-inv, true-or-false, granted-yes, granted-no}
-use Rattle.laws.proofs.Searching.{all-same, all-at}
-use Rattle.laws.proofs.Stores.{front-at, length-store, store-same}
+use Rattle.laws.proofs.Booleans.{also-inv, within-inv}
+use Rattle.laws.proofs.Searching.{all-same}
+use Rattle.laws.proofs.Stores.{length-store, store-same}
 use Rattle.laws.proofs.Quotients.{times-more}
-use Rattle.view.specs.declared.View.{View}
-use Rattle.view.specs.declared.Etype.{Etype}
-use Rattle.view.specs.declared.Filetype.{Filetype}
-use Rattle.view.specs.Limits.{etypeEntriesAllowed, filetypeEntriesAllowed, extentAllowed, displacementAllowed}
-use Rattle.view.specs.Types.{PaperType, PaperView, paper, entries, widthAt, displacementAt, extentOf, whole, defaultView}
-use Rattle.view.specs.Rules.{isNative, paired, entriesAllowed, ordered, typeOrdered, instances, origin, entryBuilt, built, holesFit, viewHolesFit, apart, allowsWriting, viewRefusal, setRefusal, accepted, hold}
-use Rattle.view.proofs.Accepted.{Rules, rules-accept, type-entry, extent-small}
-use Rattle.view.proofs.Holding.{held-at, held-past, hold-same}
-use Rattle.held.specs.Parts.{EntriesKept, apartHeld}
-use Rattle.held.proofs.Whole.{holes-same, apart-same}
-use Rattle.accept.specs.declared.Accepted.{Accepted}
-use Rattle.lent.specs.Lists.{lentType, lentView}
-use Rattle.lent.specs.Parts.{countsAllowed, limitsRefusal}
-use Rattle.accept.specs.Answers.{acceptAnswer, UnusedZero, AcceptedAs}
+use Rattle.view.specs.Limits.{etypeEntriesAllowed, filetypeEntriesAllowed}
+use Rattle.view.specs.Types.{PaperView, entries, widthAt, displacementAt, extentOf}
+use Rattle.view.specs.Rules.{paired, ordered, typeOrdered, instances, origin, entryBuilt, built, holesFit, viewHolesFit, apart, allowsWriting, accepted, hold}
+use Rattle.view.proofs.Accepted.{rules-accept, type-entry, extent-small}
+use Rattle.view.proofs.Holding.{held-at, hold-same}
+use Rattle.held.specs.Parts.{apartHeld}
+use Rattle.held.proofs.Pieces.{holes-same}
+use Rattle.held.proofs.Instances.{apart-same}
 use Rattle.accept.specs.Parts.{wholeAt, rulesRefusal, heldEtype, entryShifted, builtAt, groupsBuilt, groupOrigin, heldFiletype, shapesRefusal, ShapesReady}
-
--- ---- a chain with later checks at its end: it passes to them, or it answers as without them
-
-pub record Passes (ends : ℕ → ℕ) : Type 0 where
-  pub on : (later : ℕ) → ends 0 ≡ 0 → ends later ≡ later
-  pub stops : (later : ℕ) → (ends 0 ≡ 0 → ⊥) → ends later ≡ ends 0
-
-ends-here : Passes (λ later. later)
-ends-here = record { on = λ later h. refl; stops = λ later h. absurd (h refl) }
-
-check-passes : (b : Bool) (k : ℕ) (ends : ℕ → ℕ) → 0 < k → Passes ends → Passes (λ later. check b k (ends later))
-unfolding check
-check-passes true k ends l p = p
-check-passes false k ends l p = record { on = λ later h. absurd (omega arith); stops = λ later h. refl }
-
-limits-pass : (r : List ℕ) (v : PaperView) → Passes (limitsRefusal r v)
-unfolding limitsRefusal
-limits-pass r v =
-    check-passes _ 2 _ (lit< tt) (check-passes _ 3 _ (lit< tt) (check-passes _ 4 _ (lit< tt) (check-passes _ 5 _ (lit< tt) (check-passes _ 6 _ (lit< tt) ends-here))))
-
--- the paper's chain is checks 2 to 6, then 7 to 10
-chain-is : (mode : ℕ) (r : List ℕ) (v : PaperView) → setRefusal mode r v ≡ limitsRefusal r v (rulesRefusal mode v)
-unfolding setRefusal viewRefusal limitsRefusal rulesRefusal countsAllowed paired entries
-chain-is mode r v = refl
-
-pub limits-refused : (mode : ℕ) (r : List ℕ) (v : PaperView) (k : ℕ) → k ≡ limitsRefusal r v 0 → (k ≡ 0 → ⊥) → k ≡ setRefusal mode r v
-limits-refused mode r v k e h = e ∙ sym (limits-pass r v .stops (rulesRefusal mode v) (λ z. h (e ∙ z))) ∙ sym (chain-is mode r v)
-
-pub limits-granted : (mode : ℕ) (r : List ℕ) (v : PaperView) (k n : ℕ) → k ≡ limitsRefusal r v 0 → k ≡ 0 → n ≡ rulesRefusal mode v → n ≡ setRefusal mode r v
-limits-granted mode r v k n e z q = q ∙ sym (limits-pass r v .on (rulesRefusal mode v) (sym e ∙ z)) ∙ sym (chain-is mode r v)
-
--- a set that is not refused accepts the view
-pub set-accepted : (mode : ℕ) (r : List ℕ) (v : PaperView) → setRefusal mode r v ≡ 0 → accepted mode v ≡ true
-unfolding setRefusal accepted
-set-accepted mode r v e = eq-eqb _ 0 (check-inv _ _ _ (lit< tt) e .1)
-
--- ---- what checks 2 to 6 leave
-
-pub record Limited (v : PaperView) : Type 0 where
-  pub displacement : displacementAllowed (v .displacement) ≡ true
-  pub etype-pairs : length (v .etype .widths) ≡ length (v .etype .displacements)
-  pub filetype-pairs : length (v .filetype .widths) ≡ length (v .filetype .displacements)
-  pub etype-count : etypeEntriesAllowed (length (v .etype .widths)) ≡ true
-  pub filetype-count : filetypeEntriesAllowed (length (v .etype .widths)) (length (v .filetype .widths)) ≡ true
-  pub etype-extent : extentAllowed (v .etype .extent) ≡ true
-  pub filetype-extent : extentAllowed (v .filetype .extent) ≡ true
-  pub etype-entries : entriesAllowed (v .etype) ≡ true
-  pub filetype-entries : entriesAllowed (v .filetype) ≡ true
-
-pub limited : (r : List ℕ) (v : PaperView) (k : ℕ) → k ≡ limitsRefusal r v 0 → k ≡ 0 → Limited v
-unfolding limitsRefusal countsAllowed
-limited r v k e z =
-    let c2 = check-inv _ _ _ (lit< tt) (sym e ∙ z) in
-    let c3 = check-inv _ _ _ (lit< tt) (c2 .1) in
-    let c4 = check-inv _ _ _ (lit< tt) (c3 .1) in
-    let c5 = check-inv _ _ _ (lit< tt) (c4 .1) in
-    let c6 = check-inv _ _ _ (lit< tt) (c5 .1) in
-    let a = also-inv _ _ (c4 .0) in
-    let b = also-inv _ _ (a .1) in
-    let c = also-inv _ _ (b .1) in
-    let x = also-inv _ _ (c5 .0) in
-    let y = also-inv _ _ (c6 .0) in
-    record {
-      displacement = c3 .0;
-      etype-pairs = eqb-true _ _ (a .0);
-      filetype-pairs = eqb-true _ _ (b .0);
-      etype-count = c .0;
-      filetype-count = c .1;
-      etype-extent = x .0;
-      filetype-extent = x .1;
-      etype-entries = y .0;
-      filetype-entries = y .1;
-    }
+use Rattle.accept.proofs.Chain.{Limited}
 
 -- ---- what the code builds is the record of the view
 

@@ -1,10 +1,10 @@
 -- The answers of `accept`, from what its calls ensure.
 use Prim.Native.Nat.{ℕ, zero, suc, _/_, _≤_, _<_}
 use mathlib.Core.List.{List}
-use mathlib.Core.Path.{_≡_, refl, sym, ap, _∙_, subst}
+use mathlib.Core.Path.{_≡_, sym, ap, _∙_, subst}
 use native.Mathlib.Omega.{arith}
-use lib.IntN.{ℤ, pos}
-use lib.ListN.{length, getD, take, replicate, getD-replicate, length-replicate}
+use lib.IntN.{ℤ}
+use lib.ListN.{length, take, replicate, getD-replicate, length-replicate}
 use lib.Seq.{length-take-le}
 use mir.Syntax.{w64}
 use mir.Val.{SFits, toZ, ofZ}
@@ -17,14 +17,15 @@ use Rattle.view.specs.declared.View.{View}
 use Rattle.view.specs.declared.Etype.{Etype}
 use Rattle.view.specs.declared.Filetype.{Filetype}
 use Rattle.view.specs.Types.{PaperView, paper, entries, widthAt, extentOf, whole, defaultView}
-use Rattle.view.specs.Rules.{setRefusal, accepted, hold, instances, origin}
+use Rattle.view.specs.Rules.{setRefusal, hold, instances, origin}
 use Rattle.view.proofs.Holding.{held-past, hold-same}
 use Rattle.accept.specs.declared.Accepted.{Accepted}
 use Rattle.lent.specs.Lists.{lentType, lentView}
-use Rattle.lent.specs.Parts.{countsAllowed, limitsRefusal}
+use Rattle.lent.specs.Parts.{limitsRefusal}
 use Rattle.accept.specs.Answers.{acceptAnswer, UnusedZero, AcceptedAs}
 use Rattle.accept.specs.Parts.{wholeAt, rulesRefusal, heldEtype, heldFiletype, shapesRefusal, ShapesReady}
-use Rattle.accept.proofs.Accepting.{Limited, limited, limits-refused, limits-granted, naturalsOf, etype-hold, filetype-hold, shapes-same, ready, groups-few, etype-few, pairs-few, set-accepted}
+use Rattle.accept.proofs.Chain.{Limited, limited, limits-refused, limits-granted, set-accepted}
+use Rattle.accept.proofs.Accepting.{naturalsOf, etype-hold, filetype-hold, shapes-same, ready, etype-few, pairs-few}
 
 -- ---- unused places
 

@@ -1,23 +1,21 @@
 -- How the record of a view is built of lent lists, and how its groups are tested.
-use Prim.Native.Nat.{ℕ, suc, _+_, _-_, _*_, _/_, _%_, _^_, _≤_, _<_}
+use Prim.Native.Nat.{ℕ, _+_, _-_, _*_, _/_, _%_, _^_, _≤_, _<_}
 use mathlib.Core.Bool.{Bool, true, false, not}
 use mathlib.Core.List.{List}
 use mathlib.Core.Logic.{⊎-elim}
-use mathlib.Core.Path.{_≡_, refl, sym, ap, _∙_}
+use mathlib.Core.Path.{_≡_, sym, ap, _∙_}
 use native.Mathlib.Nat.{mod-lt, div-mul-le-self, mul-le-mul-right}
 use native.Mathlib.Omega.{arith}
 use borrow.Author.Needs.{needs, sfits-of}
 use borrow.Author.Tests.{eq-eqb, ne-eqb}
-use lib.Dec.{leb, eqb}
+use lib.Dec.{eqb}
 use lib.IntN.{ℤ, pos}
 use lib.Signed.{mag}
 use lib.ListN.{length, getD, replicate}
 use mir.Syntax.{w64}
 use mir.Val.{Fits, toZ, ofZ, hbits}
 use mir.Facts.{toZ-ofZ}
-use Rattle.laws.specs.Checks.{also}
 use Rattle.laws.specs.Lists.{nth, front}
-use Rattle.laws.specs.Search.{all}
 use Rattle.laws.proofs.Booleans.{tests, also-yes, also-no, unflag-true, unflag-false, eq-or-ne}
 use Rattle.laws.proofs.Searching.{Passed, passed-none, passed-more, passed-fails, passed-holds}
 use Rattle.laws.proofs.Stores.{store-none, store-more, store-end}

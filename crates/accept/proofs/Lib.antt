@@ -1,4 +1,5 @@
 pub mod Building
 pub mod Shaping
+pub mod Chain
 pub mod Accepting
 pub mod Answering

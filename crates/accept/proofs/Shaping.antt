@@ -1,5 +1,5 @@
 -- Checks 7 to 10 as a chain, on the records.
-use Prim.Native.Nat.{ℕ, suc, _+_, _-_, _*_, _/_, _%_, _≤_, _<_}
+use Prim.Native.Nat.{ℕ, _*_, _/_, _%_, _≤_, _<_}
 use mathlib.Core.Bool.{Bool, true, false, not}
 use mathlib.Core.List.{List, map}
 use mathlib.Core.Logic.{⊎-elim}
@@ -7,15 +7,14 @@ use mathlib.Core.Path.{_≡_, refl, sym, ap, _∙_}
 use native.Mathlib.Nat.{div-add-mod', eq-zero-or-pos, zero-mul}
 use native.Mathlib.Omega.{arith}
 use borrow.Author.Tests.{eqb-true}
-use lib.Dec.{eqb}
 use lib.ListN.{length, take}
-use Rattle.laws.specs.Checks.{also, either, check}
+use Rattle.laws.specs.Checks.{either}
 use Rattle.laws.specs.Lists.{nth}
-use Rattle.laws.proofs.Booleans.{check-yes, check-no, also-inv, also-true, also-first, also-false, either-left, either-right, either-no, unflag-true, unflag-false}
+use Rattle.laws.proofs.Booleans.{check-yes, also-inv, also-true, either-left, either-right, either-no, unflag-true, unflag-false}
 use Rattle.view.specs.declared.Etype.{Etype}
 use Rattle.view.specs.declared.Filetype.{Filetype}
 use Rattle.view.specs.Rules.{ordered}
-use Rattle.held.specs.Parts.{OriginsKept, ShapeKept}
+use Rattle.held.specs.Parts.{ShapeKept}
 use Rattle.held.proofs.Chains.{ordered-prefix, upto-field}
 use Rattle.accept.specs.Parts.{groupsBuilt, ShapesReady}
 

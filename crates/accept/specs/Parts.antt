@@ -12,7 +12,7 @@ use Rattle.laws.specs.Search.{all}
 use Rattle.view.specs.declared.Etype.{Etype}
 use Rattle.view.specs.declared.Filetype.{Filetype}
 use Rattle.view.specs.Limits.{maxEtypeEntries, maxInstances, maxEntryEnd, maxExtent}
-use Rattle.view.specs.Types.{PaperType, PaperView, whole}
+use Rattle.view.specs.Types.{PaperView, whole}
 use Rattle.view.specs.Rules.{ordered, typeOrdered, built, holesFit, viewHolesFit, apart, allowsWriting}
 use Rattle.held.specs.Parts.{EntriesKept, apartHeld}
 

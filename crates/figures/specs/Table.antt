@@ -3,7 +3,7 @@ use Prim.Native.Nat.{ℕ}
 use mathlib.Core.List.{List, [], _∷_, map}
 use mathlib.Core.Path.{_≡_}
 use lib.IntN.{ℤ, pos, negsuc}
-use lib.ListN.{length, replicate}
+use lib.ListN.{replicate}
 use Rattle.view.specs.Types.{PaperType, PaperView}
 use Rattle.view.specs.Rules.{nativeName}
 use Rattle.view.specs.declared.Owner.{Owner}

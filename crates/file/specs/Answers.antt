@@ -1,14 +1,11 @@
 -- Document 01: the whole answer of each call, and what it leaves in everything lent.
 -- A refusal carries its number, count 0, any other number 0, and the handle and file record as they came; nothing lent changes.
-use Prim.Native.Nat.{ℕ, _+_, _*_}
-use mathlib.Core.Bool.{Bool, cond}
+use Prim.Native.Nat.{ℕ, _+_}
 use mathlib.Core.List.{List}
-use lib.Dec.{eqb}
 use lib.IntN.{ℤ, pos}
-use lib.ListN.{length, getD, set}
+use lib.ListN.{length}
 use Rattle.laws.specs.Checks.{granted}
 use Rattle.laws.specs.Lists.{front}
-use Rattle.view.specs.declared.Owner.{Owner}
 use Rattle.view.specs.declared.Owner.the-variants.{Nobody}
 use Rattle.view.specs.Types.{PaperType, PaperView, entries, widthAt, displacementAt, extentOf, whole}
 use Rattle.view.specs.Rules.{hold}
@@ -26,7 +23,7 @@ use Rattle.file.specs.declared.Owned.{Owned}
 use Rattle.file.specs.declared.Ended.{Ended}
 use Rattle.file.specs.declared.Moved.{Moved}
 use Rattle.file.specs.Handles.{viewOf, freshHandle, modeGot, withPointer, withView, withSize}
-use Rattle.file.specs.Refusals.{openRefusal, setViewRefusal, giveBackRefusal, placeRefusal, reverseRefusal, endRefusal, seekTarget, seekRefusal, readRefusal, writeRefusal}
+use Rattle.file.specs.Refusals.{openRefusal, setViewRefusal, placeRefusal, reverseRefusal, endRefusal, seekTarget, seekRefusal, readRefusal, writeRefusal}
 
 -- ---- open: the default view, pointer 0 and the mode got; a refused one has mode 0
 

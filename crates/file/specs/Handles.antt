@@ -1,7 +1,7 @@
 -- Document 01: open, check 1, and what a granted call changes in a handle.
 use Prim.Native.Nat.{ℕ}
 use mathlib.Core.Bool.{Bool, cond}
-use lib.Dec.{eqb, leb}
+use lib.Dec.{eqb}
 use Rattle.laws.specs.Checks.{also}
 use Rattle.view.specs.declared.View.{View}
 use Rattle.view.specs.Limits.{pointerAllowed, fileAllowed}

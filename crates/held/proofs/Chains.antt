@@ -1,28 +1,26 @@
 -- The longer tests of this crate: holes, the etype, the filetype and overlap.
 use Prim.Native.Nat.{ℕ, zero, suc, _+_, _-_, _*_, _%_, _≤_, _<_}
-use mathlib.Core.Bool.{Bool, true, false, cond, not}
+use mathlib.Core.Bool.{Bool, true, false, not}
 use mathlib.Core.List.{List, map}
-use mathlib.Core.Path.{_≡_, refl, sym, ap, _∙_}
+use mathlib.Core.Path.{_≡_, sym, ap, _∙_}
 use native.Mathlib.Nat.{mul-le-mul}
-use native.Mathlib.Numerals.{add-one}
 use native.Mathlib.Omega.{arith}
 use borrow.Author.Needs.{needs, length-unmapped}
-use borrow.Author.Tests.{lt-ltb, le-ltb, eq-eqb, ne-eqb, leb-true, le-leb, lt-leb}
-use lib.Dec.{leb, ltb, eqb}
+use borrow.Author.Tests.{lt-ltb, le-ltb, eq-eqb, ne-eqb, leb-true}
+use lib.Dec.{eqb}
 use lib.ListN.{length, getD, take}
 use lib.Seq.{getD-take, length-take-le}
 use mir.Syntax.{w64}
 use mir.Val.{Fits}
-use Rattle.laws.specs.Checks.{also, within}
 use Rattle.laws.specs.Lists.{nth}
-use Rattle.laws.specs.Search.{all, greatest}
-use Rattle.laws.proofs.Booleans.{also-inv, also-no, also-yes, also-true, within-inv, within-low, within-high, within-yes, tests, unflag-true, unflag-false}
+use Rattle.laws.specs.Search.{all}
+use Rattle.laws.proofs.Booleans.{also-inv, also-no, also-yes, within-inv, within-low, within-high, within-yes, tests, unflag-true, unflag-false}
 use Rattle.laws.proofs.Searching.{Passed, passed-none, passed-more, passed-fails, passed-holds, all-at, all-same}
 use Rattle.laws.proofs.Sums.{greatest-least}
 use Rattle.view.specs.declared.Etype.{Etype}
 use Rattle.view.specs.declared.Filetype.{Filetype}
 use Rattle.view.specs.Rules.{ordered, hole, holesFit}
-use Rattle.held.specs.Parts.{entryFits, entryHeld, etypeHeld, entryEnd, EntriesKept, OriginsKept, reachOf, reachAt, lastBegins, lastEnds, originsStep, filetypeHeld, holeFits, apartAt, tileApart, apartHeld, ShapeKept}
+use Rattle.held.specs.Parts.{entryFits, entryHeld, etypeHeld, entryEnd, EntriesKept, OriginsKept, reachOf, reachAt, filetypeHeld, holeFits, ShapeKept}
 
 -- ---- holes: the first, one between two instances, and the last
 

@@ -1,20 +1,18 @@
 -- What the loops of this crate test at one index, and that no sum of theirs wraps.
-use Prim.Native.Nat.{ℕ, suc, _+_, _-_, _*_, _%_, _≤_, _<_}
+use Prim.Native.Nat.{ℕ, _+_, _-_, _≤_, _<_}
 use mathlib.Core.Bool.{Bool, true, false, not}
 use mathlib.Core.List.{List}
-use mathlib.Core.Path.{_≡_, refl, sym, ap, _∙_}
+use mathlib.Core.Path.{_≡_, sym, _∙_}
 use native.Mathlib.Nat.{lt-of-lt-of-le}
 use native.Mathlib.Omega.{arith}
 use borrow.Author.Needs.{needs}
 use borrow.Author.Tests.{le-leb, lt-leb, not-true, not-false}
-use lib.Dec.{leb, eqb}
+use lib.Dec.{leb}
 use lib.ListN.{length, getD}
 use mir.Syntax.{w64}
 use mir.Val.{Fits}
-use Rattle.laws.specs.Checks.{also}
 use Rattle.laws.specs.Lists.{nth}
-use Rattle.laws.specs.Search.{all}
-use Rattle.laws.proofs.Booleans.{also-no, also-false}
+use Rattle.laws.proofs.Booleans.{also-false}
 use Rattle.laws.proofs.Sums.{Highest, highest-none, highest-more, highest-end}
 use Rattle.laws.proofs.Searching.{Passed, passed-none, passed-more, passed-fails, passed-holds, all-intro}
 use Rattle.view.specs.Limits.{widthAllowed}

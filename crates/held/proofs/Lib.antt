@@ -1,3 +1,5 @@
 pub mod Fitting
 pub mod Chains
+pub mod Pieces
+pub mod Instances
 pub mod Whole

@@ -1,5 +1,5 @@
 -- What the functions of this crate test on a held record, part by part. A reader need not believe these: the contract of `keeps` is `accepted`, and the proofs show that the parts make it up.
-use Prim.Native.Nat.{ℕ, zero, suc, _+_, _-_, _*_, _%_, _≤_, _<_}
+use Prim.Native.Nat.{ℕ, _+_, _-_, _*_, _%_, _≤_, _<_}
 use mathlib.Core.Bool.{Bool, not}
 use mathlib.Core.List.{List}
 use lib.Dec.{leb, eqb}

@@ -9,7 +9,7 @@ ghost use Rattle.laws.specs.Search.{all};
 ghost use Rattle.view.specs.Limits.{maxEtypeEntries, maxInstances, maxEntryEnd, widthAllowed};
 ghost use Rattle.view.specs.Types.{paper};
 ghost use Rattle.view.specs.Rules.{ordered, holesFit, allowsWriting, accepted};
-ghost use Rattle.held.specs.Parts.{entryFits, entryHeld, etypeHeld, EntriesKept, reachOf, OriginsKept, reachAt, originsStep, holeFits, filetypeHeld, apartAt, apartHeld, ShapeKept};
+ghost use Rattle.held.specs.Parts.{entryFits, entryHeld, etypeHeld, EntriesKept, reachOf, OriginsKept, reachAt, originsStep, filetypeHeld, apartAt, apartHeld, ShapeKept};
 use view::Etype;
 use view::Filetype;
 use view::View;

@@ -1,25 +1,23 @@
 -- What the functions of this crate test of one lent number, and how their loops go on.
-use Prim.Native.Nat.{ℕ, suc, _+_, _-_, _*_, _%_, _^_, _≤_, _<_}
+use Prim.Native.Nat.{ℕ, _*_, _^_, _≤_, _<_}
 use mathlib.Core.Bool.{Bool, true, false, not, true≢false}
 use mathlib.Core.List.{List}
 use mathlib.Core.Path.{_≡_, refl, sym, ap, _∙_}
-use native.Mathlib.Nat.{lt-of-lt-of-le}
 use native.Mathlib.Omega.{arith}
 use borrow.Author.Needs.{needs, sfits-of}
-use borrow.Author.Tests.{ltb-true, eqb-true, le-leb, lt-leb, eq-eqb, ne-eqb, not-true, not-false}
-use lib.Dec.{leb, ltb, eqb}
+use borrow.Author.Tests.{ltb-true, eqb-true, le-leb, eq-eqb, ne-eqb}
+use lib.Dec.{leb}
 use lib.IntN.{ℤ, pos, negsuc}
 use lib.ListN.{length, getD}
 use lib.Signed.{ltZ, mag}
 use mir.Syntax.{w64}
 use mir.Val.{Fits, SFits, toZ, ofZ, hbits}
 use mir.Facts.{toZ-ofZ}
-use Rattle.laws.specs.Checks.{also, within}
-use Rattle.laws.specs.Lists.{nth, front}
+use Rattle.laws.specs.Checks.{within}
 use Rattle.laws.specs.Search.{all}
-use Rattle.laws.proofs.Booleans.{tests, check-yes, check-no, also-inv, also-yes, also-no, also-first, also-false, also-true, within-low, within-high, within-yes, unflag-true, unflag-false}
+use Rattle.laws.proofs.Booleans.{tests, check-yes, also-inv, also-yes, also-no, also-false, also-true, within-low, within-high, within-yes, unflag-true, unflag-false}
 use Rattle.laws.proofs.Searching.{Passed, passed-none, passed-more, passed-fails, passed-holds}
-use Rattle.view.specs.Limits.{widthAllowed, etypeEntriesAllowed, filetypeEntriesAllowed, entryDisplacementAllowed, extentAllowed, displacementAllowed}
+use Rattle.view.specs.Limits.{widthAllowed, entryDisplacementAllowed, extentAllowed, displacementAllowed}
 use Rattle.view.specs.Types.{entries, widthAt, whole}
 use Rattle.view.specs.Rules.{nativeName, isNative, entryAllowed, entriesAllowed}
 use Rattle.lent.specs.Lists.{lentType}

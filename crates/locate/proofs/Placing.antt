@@ -1,14 +1,14 @@
 -- No step on the way to a place or to an end of file wraps, and what is computed on the record is what the definitions say of the view on paper.
-use Prim.Native.Nat.{ℕ, suc, _+_, _-_, _*_, _/_, _%_, _≤_, _<_, max}
-use mathlib.Core.Bool.{true, cond}
+use Prim.Native.Nat.{ℕ, _+_, _-_, _*_, _/_, _%_, _≤_, _<_}
+use mathlib.Core.Bool.{true}
 use mathlib.Core.Logic.{⊎-elim}
 use mathlib.Core.Path.{_≡_, refl, sym, ap, _∙_}
-use native.Mathlib.Nat.{mul-le-mul, div-le-self, mod-lt, lt-of-lt-of-le}
+use native.Mathlib.Nat.{mul-le-mul, div-le-self, mod-lt}
 use native.Mathlib.Omega.{arith}
 use borrow.Author.Needs.{needs}
 use borrow.Author.Tests.{ltb-true, lt-ltb, le-ltb}
 use lib.IntN.{ℤ, pos, negsuc}
-use lib.ListN.{length, getD}
+use lib.ListN.{getD}
 use mir.Syntax.{w64}
 use mir.Val.{Fits, toZ, ofZ}
 use mir.Facts.{toZ-ofZ}
@@ -18,8 +18,8 @@ use Rattle.laws.proofs.Sums.{Highest, highest-none, highest-more, highest-end, 
 use Rattle.laws.proofs.Booleans.{not-both, lt-or-le}
 use Rattle.view.specs.declared.View.{View}
 use Rattle.view.specs.Limits.{offsetAllowed}
-use Rattle.view.specs.Types.{PaperView, paper, entries, extentOf, whole, displacementAt}
-use Rattle.view.specs.Rules.{instances, origin, Kept}
+use Rattle.view.specs.Types.{paper, entries, whole}
+use Rattle.view.specs.Rules.{instances, Kept}
 use Rattle.view.specs.Places.{place}
 use Rattle.view.specs.End.{endFrom, endOfFile}
 use Rattle.view.proofs.Paper.{paper-entries, paper-instances, paper-origin, paper-place, paper-file-extent, paper-start}

@@ -1,9 +1,8 @@
 -- The record in which an accepted view is held stands for that view, and its unused places are 0.
-use Prim.Native.Nat.{ℕ, suc, _+_, _*_, _/_, _%_, _≤_, _<_}
+use Prim.Native.Nat.{ℕ, _+_, _/_, _%_, _≤_, _<_}
 use mathlib.Core.Bool.{true}
-use mathlib.Core.List.{List}
 use mathlib.Core.Path.{_≡_, refl, sym, ap, _∙_}
-use native.Mathlib.Nat.{mod-lt, add-comm}
+use native.Mathlib.Nat.{mod-lt}
 use native.Mathlib.Omega.{arith}
 use borrow.Author.Tests.{eqb-true}
 use lib.IntN.{ℤ, pos, negsuc}
@@ -15,7 +14,7 @@ use Rattle.laws.proofs.Stores.{tabulate-is, front-at, front-past}
 use Rattle.laws.proofs.Quotients.{runs-below}
 use Rattle.view.specs.Limits.{displacementAllowed, extentAllowed, entryDisplacementAllowed}
 use Rattle.view.specs.Types.{PaperType, PaperView, entries, widthAt, displacementAt, extentOf, whole, paper}
-use Rattle.view.specs.Rules.{paired, entryAllowed, entriesAllowed, instances, origin, built, hold, accepted}
+use Rattle.view.specs.Rules.{paired, entryAllowed, entriesAllowed, instances, origin, hold, accepted}
 use Rattle.view.proofs.Accepted.{Rules, rules, Facts, facts, accepted-kept, built-entry, entry-built-inv, instances-few}
 
 -- a number that is in range is the natural number taken for it

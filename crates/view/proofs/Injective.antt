@@ -4,17 +4,16 @@
 use Prim.Native.Nat.{ℕ, zero, suc, _+_, _-_, _*_, _/_, _%_, _≤_, _<_}
 use mathlib.Core.Bool.{true}
 use mathlib.Core.Logic.{⊎-elim}
-use mathlib.Core.Path.{_≡_, refl, sym, ap, _∙_}
-use native.Mathlib.Nat.{div-add-mod', mod-lt, add-mul, mul-assoc, add-zero, add-suc, one-mul, zero-div, zero-mod, div-self, mod-self}
+use mathlib.Core.Path.{_≡_, sym, ap, _∙_}
+use native.Mathlib.Nat.{div-add-mod', mod-lt, add-mul, mul-assoc, add-zero, add-suc, zero-div, zero-mod, div-self, mod-self}
 use native.Mathlib.Numerals.{add-one}
 use native.Mathlib.Omega.{arith}
 use borrow.Author.Tests.{leb-true, lt-ltb, le-ltb}
-use lib.Dec.{leb, ltb}
 use Rattle.laws.proofs.Booleans.{lt-or-le}
 use Rattle.laws.proofs.Searching.{all-at}
 use Rattle.laws.proofs.Quotients.{run-div, run-mod, run-below, next-in, next-over, times-more}
 use Rattle.view.specs.Types.{PaperView, entries, widthAt, displacementAt, extentOf, whole}
-use Rattle.view.specs.Rules.{instances, origin, apart, entryApart, nextBegins, accepted, allowsWriting}
+use Rattle.view.specs.Rules.{instances, apart, entryApart, nextBegins, accepted, allowsWriting}
 use Rattle.view.specs.Places.{place, dataSize, packedBefore, entryOf, dataAt, byteOf, Distinct, Narrow}
 use Rattle.view.proofs.Accepted.{Facts, facts, accepted-kept, writing-apart, instances-some}
 use Rattle.view.proofs.Packing.{entry-below, entry-ends, entry-begins}

@@ -1,16 +1,16 @@
 -- The view on paper that a held record stands for, number by number.
-use Prim.Native.Nat.{ℕ, suc, _+_, _-_, _*_, _/_, _%_, _≤_, _<_}
-use mathlib.Core.Path.{_≡_, refl, sym, ap, _∙_}
-use native.Mathlib.Nat.{mul-div-cancel, mul-mod-left, mod-lt, mul-lt-mul-of-pos-right, zero-mul, div-eq-of-lt, mod-eq-of-lt}
+use Prim.Native.Nat.{ℕ, _+_, _*_, _/_, _%_, _<_}
+use mathlib.Core.Path.{_≡_, refl, ap, _∙_}
+use native.Mathlib.Nat.{mul-div-cancel, mul-mod-left, mod-lt, mul-lt-mul-of-pos-right}
 use native.Mathlib.Omega.{arith}
-use lib.IntN.{ℤ, pos}
-use lib.ListN.{length, getD}
+use lib.IntN.{pos}
+use lib.ListN.{getD}
 use Rattle.laws.specs.Lists.{nth, tabulate}
 use Rattle.laws.proofs.Stores.{length-tabulate, tabulate-at, tabulate-same}
-use Rattle.laws.proofs.Quotients.{run-below, runs-below}
+use Rattle.laws.proofs.Quotients.{runs-below}
 use Rattle.view.specs.declared.View.{View}
 use Rattle.view.specs.Types.{paper, SameView, entries, widthAt, displacementAt, extentOf, whole}
-use Rattle.view.specs.Rules.{instances, origin, paired}
+use Rattle.view.specs.Rules.{instances, origin}
 use Rattle.view.specs.Places.{place}
 
 module _ (v : View) where

@@ -1,16 +1,14 @@
 -- A signed number and the natural one taken for it, as the code tests and casts it.
-use Prim.Native.Nat.{ℕ, _<_, _^_}
+use Prim.Native.Nat.{ℕ}
 use mathlib.Core.Bool.{true, false, true≢false}
-use mathlib.Core.Path.{_≡_, refl, ap, _∙_, sym}
+use mathlib.Core.Path.{_≡_, refl}
 use native.Mathlib.Omega.{arith}
 use borrow.Author.Tests.{ltb-true}
-use borrow.Author.Needs.{sfits-of}
 use lib.Dec.{T, ltb}
 use lib.IntN.{ℤ, pos, negsuc, natAbs}
-use lib.Signed.{ltZ, nonNeg, mag}
+use lib.Signed.{ltZ, nonNeg}
 use mir.Syntax.{w64}
-use mir.Val.{Fits, SFits, toZ, ofZ, hbits}
-use mir.Facts.{toZ-ofZ}
+use mir.Val.{Fits, SFits}
 use Rattle.view.specs.Types.{whole}
 
 not-negative : (n : ℕ) → ltb n 0 ≡ true → ⊥

@@ -1,6 +1,5 @@
 -- Document 01, "Where an offset lies", and the law of demand 3.
 use Prim.Native.Nat.{ℕ, _+_, _-_, _*_, _/_, _%_, _≤_, _<_}
-use mathlib.Core.Bool.{Bool}
 use mathlib.Core.Path.{_≡_}
 use lib.Dec.{leb}
 use Rattle.laws.specs.Search.{first, total}

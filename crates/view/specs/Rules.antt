@@ -1,17 +1,17 @@
 -- Document 01, "When a view is accepted", and refusals 2 to 10.
 use Prim.Native.Nat.{ℕ, zero, suc, _+_, _-_, _*_, _/_, _%_, _<_}
-use mathlib.Core.Bool.{Bool, true, false, cond, not}
+use mathlib.Core.Bool.{Bool, true, cond, not}
 use mathlib.Core.List.{List, [], _∷_}
 use mathlib.Core.Path.{_≡_}
 use lib.Dec.{leb, ltb, eqb}
-use lib.IntN.{ℤ, pos}
+use lib.IntN.{pos}
 use lib.ListN.{length, getD, replicate}
 use Rattle.laws.specs.Checks.{also, either, within, check}
 use Rattle.laws.specs.Search.{all}
 use Rattle.laws.specs.Lists.{front, nth}
 use Rattle.view.specs.declared.View.{View}
 use Rattle.view.specs.Limits.{maxEtypeEntries, maxInstances, widthAllowed, etypeEntriesAllowed, filetypeEntriesAllowed, entryDisplacementAllowed, extentAllowed, displacementAllowed}
-use Rattle.view.specs.Types.{PaperType, PaperView, entries, widthAt, displacementAt, extentOf, whole, paper}
+use Rattle.view.specs.Types.{PaperType, PaperView, entries, widthAt, displacementAt, extentOf, whole}
 
 -- ---- limits
 

@@ -1,10 +1,10 @@
 -- Document 01, "A type on paper": types and views as lists and numbers, and the ones that a held record stands for.
-use Prim.Native.Nat.{ℕ, zero, suc, _+_, _-_, _*_, _/_, _%_}
-use mathlib.Core.List.{List, [], _∷_}
+use Prim.Native.Nat.{ℕ, _+_, _-_, _*_, _/_, _%_}
+use mathlib.Core.List.{List, _∷_}
 use mathlib.Core.Path.{_≡_}
 use lib.IntN.{ℤ, pos, negsuc}
 use lib.ListN.{length, getD, replicate}
-use Rattle.laws.specs.Lists.{tabulate, nth, front}
+use Rattle.laws.specs.Lists.{tabulate, nth}
 use Rattle.view.specs.declared.View.{View}
 use Rattle.view.specs.Limits.{maxEtypeEntries, maxInstances}
 

@@ -1,6 +1,5 @@
 -- `instances_step` passes the instances in order and leaves at the first that reaches past the next. Assumes nothing.
 use Prim.Native.Nat.{_-_, _≤_}
-use mathlib.Core.Path.{_≡_}
 use Rattle.laws.proofs.Searching.{Passed}
 use Rattle.held.specs.Parts.{originsStep, stepAt, OriginsKept}
 use Rattle.held.proofs.Fitting.{stepping}

@@ -1,5 +1,5 @@
 -- `shape_apart` follows the definition along its tests; no sum of it wraps. Assumes nothing.
-use Rattle.held.specs.Parts.{apartHeld, tileApart, lastEnds, lastBegins}
+use Rattle.held.specs.Parts.{apartHeld, tileApart, lastEnds}
 use Rattle.held.proofs.Chains.{chain, shaping}
 use borrow.Author.Needs.{needs}
 use Rattle.held.proofs.shape_apart.Statement.{statement}
