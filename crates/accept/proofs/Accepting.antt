@@ -72,13 +72,6 @@ module _ (v : PaperView) (lim : Limited v) where
   pub pairs-few : length (v .filetype .displacements) ≤ 256
   pairs-few = file-few
 
-  pub groups-few : length (v .filetype .displacements) / length (v .etype .widths) ≤ 64
-  groups-few =
-      let s : 0 < length (v .etype .widths) = counts .0 in
-      let q : length (v .filetype .displacements) < 65 * length (v .etype .widths) = omega (arith, file-counts .2, lim .filetype-pairs) in
-      let r : length (v .filetype .displacements) / length (v .etype .widths) < 65 = div-lt-iff-lt-mul s .1 q in
-      omega arith
-
   pub etype-hold : heldEtype (v .etype .widths) (v .etype .displacements) (extentOf (v .etype)) ≡ hold v .etype
   unfolding heldEtype hold entries widthAt displacementAt wholeAt
   etype-hold = λ i. record {

@@ -6,7 +6,7 @@ use mathlib.Core.Path.{_≡_, sym, ap, _∙_}
 use native.Mathlib.Nat.{mul-le-mul}
 use native.Mathlib.Omega.{arith}
 use borrow.Author.Needs.{needs, length-unmapped}
-use borrow.Author.Tests.{lt-ltb, le-ltb, eq-eqb, ne-eqb, leb-true}
+use borrow.Author.Tests.{lt-ltb, le-ltb, eq-eqb, ne-eqb, leb-true, le-leb, lt-leb}
 use lib.Dec.{eqb}
 use lib.ListN.{length, getD, take}
 use lib.Seq.{getD-take, length-take-le}
@@ -194,7 +194,7 @@ module _ (e : Etype) (f : Filetype) (s : ShapeKept e f) where
 
 pub ruleset shaping = (needs, shape-end, shape-step, shape-tile, shape-first, shape-next)
 
-pub ruleset chain = (tests, also-yes, also-no, within-low, within-high, within-yes)
+pub ruleset chain = (le-leb, lt-leb, unflag-true, unflag-false, also-yes, also-no, within-low, within-high, within-yes)
 
 -- ---- what the tests of the etype and the filetype leave for that of overlap
 

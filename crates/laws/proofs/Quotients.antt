@@ -21,9 +21,6 @@ run-below k n t r h l = omega (arith, mul-le-mul-right {m = t + 1} {n = k} n (om
 pub runs-below : (k n i : ℕ) → 0 < n → i < k * n → i / n < k
 runs-below k n i p l = div-lt-iff-lt-mul p .1 l
 
-pub div-mono : (n i k : ℕ) → 0 < n → i ≤ k → i / n ≤ k / n
-div-mono n i k p h = le-div-iff-mul-le p .1 (omega (arith, div-mul-le-self i n))
-
 -- quotient and remainder of the next number: inside a run, and over its end
 pub next-in : (n x : ℕ) → x % n + 1 < n → ((x + 1) / n ≡ x / n) × ((x + 1) % n ≡ x % n + 1)
 next-in n x h =

@@ -109,9 +109,6 @@ pub ruleset signing = (needs, displacement-negative, entry-negative, displacemen
 
 -- ---- counts
 
-pub counts-product : (n : ℕ) → n ≤ 8 → Fits w64 (64 * n)
-counts-product n h = record { fits = omega arith }
-
 pub ruleset counting = (tests, also-yes, also-no, within-low, within-high, within-yes)
 
 -- ---- entries

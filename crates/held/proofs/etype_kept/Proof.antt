@@ -8,26 +8,26 @@ use Rattle.held.proofs.etype_kept.Tie as tie
 
 returns : tie.Need-returns
 unfolding etypeHeld
-returns c = search chain depth 12
+returns c = search chain depth 7
 
 returns-2 : tie.Need-returns-2
 unfolding etypeHeld
-returns-2 c = search chain depth 12
+returns-2 c = search chain depth 7
 
 returns-3 : tie.Need-returns-3
 unfolding etypeHeld
-returns-3 c = search chain depth 12
+returns-3 c = search chain depth 7
 
 returns-4 : tie.Need-returns-4
 unfolding etypeHeld
-returns-4 c = search chain depth 12
+returns-4 c = search chain depth 7
 
 entries-fit-requires : tie.Need-entries-fit-requires
 entries-fit-requires c κs = search needs
 
 returns-5 : tie.Need-returns-5
 unfolding etypeHeld
-returns-5 c = search chain depth 12
+returns-5 c = search chain depth 7
 
 array-share-prefix-displacements : tie.Need-array-share-prefix-displacements
 array-share-prefix-displacements c = search (tests, upto-field)
@@ -40,7 +40,7 @@ never-decrease-requires c κs = search needs
 
 returns-6 : tie.Need-returns-6
 unfolding etypeHeld
-returns-6 c = search (chain, ordered-prefix, upto-field) depth 12
+returns-6 c = search (chain, ordered-prefix, upto-field) depth 7
 
 pub etype-kept-spec : {M : Type 1} → statement M
 etype-kept-spec =

@@ -8,26 +8,26 @@ use Rattle.held.proofs.filetype_kept.Tie as tie
 
 returns : tie.Need-returns
 unfolding filetypeHeld lastBegins
-returns c = search (chain, reach-flag, reach-no-flag) depth 16
+returns c = search (chain, reach-flag, reach-no-flag) depth 9
 
 returns-2 : tie.Need-returns-2
 unfolding filetypeHeld lastBegins
-returns-2 c = search (chain, reach-flag, reach-no-flag) depth 16
+returns-2 c = search (chain, reach-flag, reach-no-flag) depth 9
 
 mul-entries : tie.Need-mul-entries
 mul-entries c = search (tests, etype-entries, etype-extent, etype-some, entries-fit, reach-small, last-small, first-small, origins-flag)
 
 returns-3 : tie.Need-returns-3
 unfolding filetypeHeld lastBegins
-returns-3 c = search (chain, reach-flag, reach-no-flag) depth 16
+returns-3 c = search (chain, reach-flag, reach-no-flag) depth 9
 
 returns-4 : tie.Need-returns-4
 unfolding filetypeHeld lastBegins
-returns-4 c = search (chain, reach-flag, reach-no-flag) depth 16
+returns-4 c = search (chain, reach-flag, reach-no-flag) depth 9
 
 returns-5 : tie.Need-returns-5
 unfolding filetypeHeld lastBegins
-returns-5 c = search (chain, reach-flag, reach-no-flag) depth 16
+returns-5 c = search (chain, reach-flag, reach-no-flag) depth 9
 
 reach-of-requires : tie.Need-reach-of-requires
 reach-of-requires c κs = search (tests, etype-entries, etype-extent, etype-some, entries-fit, reach-small, last-small, first-small, origins-flag)
@@ -37,7 +37,7 @@ instances-fit-requires c κs = search (tests, etype-entries, etype-extent, etype
 
 returns-6 : tie.Need-returns-6
 unfolding filetypeHeld lastBegins
-returns-6 c = search (chain, reach-flag, reach-no-flag) depth 16
+returns-6 c = search (chain, reach-flag, reach-no-flag) depth 9
 
 sub-last : tie.Need-sub-last
 sub-last c = search (tests, etype-entries, etype-extent, etype-some, entries-fit, reach-small, last-small, first-small, origins-flag)
@@ -56,14 +56,14 @@ instances-step-requires c κs = search (tests, etype-entries, etype-extent, etyp
 
 returns-7 : tie.Need-returns-7
 unfolding filetypeHeld lastBegins
-returns-7 c = search (chain, reach-flag, reach-no-flag) depth 16
+returns-7 c = search (chain, reach-flag, reach-no-flag) depth 9
 
 holes-fit-requires : tie.Need-holes-fit-requires
 holes-fit-requires c κs = search (tests, etype-entries, etype-extent, etype-some, entries-fit, reach-small, last-small, first-small, origins-flag)
 
 returns-8 : tie.Need-returns-8
 unfolding filetypeHeld lastBegins
-returns-8 c = search (chain, reach-flag, reach-no-flag) depth 16
+returns-8 c = search (chain, reach-flag, reach-no-flag) depth 9
 
 pub filetype-kept-spec : {M : Type 1} → statement M
 filetype-kept-spec =

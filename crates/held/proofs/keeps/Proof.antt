@@ -9,28 +9,28 @@ use Rattle.held.proofs.keeps.Tie as tie
 
 returns : tie.Need-returns
 unfolding viewHeld
-returns c = keeps-by _ _ _ (search chain depth 12)
+returns c = keeps-by _ _ _ (search chain depth 6)
 
 etype-kept-requires : tie.Need-etype-kept-requires
 etype-kept-requires c κs = search needs
 
 returns-2 : tie.Need-returns-2
 unfolding viewHeld
-returns-2 c = keeps-by _ _ _ (search chain depth 12)
+returns-2 c = keeps-by _ _ _ (search chain depth 6)
 
 filetype-kept-requires : tie.Need-filetype-kept-requires
 filetype-kept-requires c κs = search tests
 
 returns-3 : tie.Need-returns-3
 unfolding viewHeld
-returns-3 c = keeps-by _ _ _ (search chain depth 12)
+returns-3 c = keeps-by _ _ _ (search chain depth 6)
 
 writes-requires : tie.Need-writes-requires
 writes-requires c κs = search needs
 
 returns-4 : tie.Need-returns-4
 unfolding viewHeld
-returns-4 c = keeps-by _ _ _ (search (chain, no-writing) depth 12)
+returns-4 c = keeps-by _ _ _ (search (chain, no-writing) depth 6)
 
 shape-apart-requires : tie.Need-shape-apart-requires
 shape-apart-requires c κs =
@@ -40,7 +40,7 @@ shape-apart-requires c κs =
 
 returns-5 : tie.Need-returns-5
 unfolding viewHeld
-returns-5 c = keeps-by _ _ _ (search (chain, writing) depth 12)
+returns-5 c = keeps-by _ _ _ (search (chain, writing) depth 6)
 
 pub keeps-spec : {M : Type 1} → statement M
 keeps-spec =

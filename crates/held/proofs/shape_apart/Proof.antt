@@ -10,7 +10,7 @@ entries-apart-requires c κs = search needs
 
 returns : tie.Need-returns
 unfolding apartHeld tileApart lastEnds
-returns c = search chain depth 12
+returns c = search chain depth 6
 
 sub-last : tie.Need-sub-last
 sub-last c = search needs
@@ -38,7 +38,7 @@ instances-step-requires c κs = search shaping
 
 returns-2 : tie.Need-returns-2
 unfolding apartHeld tileApart lastEnds
-returns-2 c = search chain depth 12
+returns-2 c = search chain depth 6
 
 sub-instance : tie.Need-sub-instance
 sub-instance c = search needs
@@ -63,7 +63,7 @@ add-result c = search shaping
 
 returns-3 : tie.Need-returns-3
 unfolding apartHeld tileApart lastEnds
-returns-3 c = search chain depth 12
+returns-3 c = search chain depth 6
 
 pub shape-apart-spec : {M : Type 1} → statement M
 shape-apart-spec =

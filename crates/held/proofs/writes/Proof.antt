@@ -6,11 +6,11 @@ use Rattle.held.proofs.writes.Tie as tie
 
 returns : tie.Need-returns
 unfolding allowsWriting
-returns c = search checks depth 8
+returns c = search checks depth 6
 
 returns-2 : tie.Need-returns-2
 unfolding allowsWriting
-returns-2 c = search checks depth 8
+returns-2 c = search checks depth 6
 
 pub writes-spec : {M : Type 1} → statement M
 writes-spec = tie.close (tie.spec returns returns-2)
