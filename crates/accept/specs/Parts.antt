@@ -14,7 +14,8 @@ use Rattle.view.specs.declared.Filetype.{Filetype}
 use Rattle.view.specs.Limits.{maxEtypeEntries, maxInstances, maxEntryEnd, maxExtent}
 use Rattle.view.specs.Types.{PaperView, whole}
 use Rattle.view.specs.Rules.{ordered, typeOrdered, built, holesFit, viewHolesFit, apart, allowsWriting}
-use Rattle.held.specs.Parts.{EntriesKept, apartHeld}
+use Rattle.rules.specs.Parts.{EntriesKept}
+use Rattle.held.specs.Parts.{apartHeld}
 
 -- displacement i of a list as a natural number
 unfoldable pub wholeAt : List ℤ → ℕ → ℕ

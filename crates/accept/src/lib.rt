@@ -151,19 +151,19 @@ fn shapes_refusal(mode: u64, e: Etype, fw: &[u64], fd: &[u64], f: Filetype) -> u
 {
     let displacements = e.displacements;
     let n = e.entries as usize;
-    if !held::never_decrease(&displacements[..n]) {
+    if !rules::never_decrease(&displacements[..n]) {
         return Accepted::ORDER;
     }
-    if !held::never_decrease(fd) {
+    if !rules::never_decrease(fd) {
         return Accepted::ORDER;
     }
     if !is_built(e, fw, fd) {
         return Accepted::BUILT;
     }
-    if !held::holes_fit(f, e.extent) {
+    if !rules::holes_fit(f, e.extent) {
         return Accepted::HOLE;
     }
-    if !held::writes(mode) {
+    if !rules::writes(mode) {
         return 0;
     }
     if !held::shape_apart(e, f) {

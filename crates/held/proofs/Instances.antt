@@ -19,7 +19,8 @@ use Rattle.view.specs.Types.{paper, entries, widthAt, displacementAt}
 use Rattle.view.specs.Rules.{entryAllowed, entriesAllowed, ordered, typeOrdered, instances, origin, entryBuilt, built, holesFit, viewHolesFit, nextBegins, entryApart, apart}
 use Rattle.view.proofs.Paper.{paper-entries, paper-file-entries, paper-width, paper-displacement, paper-file-width, paper-file-displacement-read, paper-file-displacement, paper-extent, paper-file-extent, paper-instances, paper-origin}
 use Rattle.view.proofs.Accepted.{type-entry, width-small}
-use Rattle.held.specs.Parts.{entryFits, entryHeld, entryEnd, reachOf, reachAt, stepAt, lastBegins, lastEnds, originsStep, apartAt, tileApart, apartHeld}
+use Rattle.rules.specs.Parts.{entryFits, entryHeld, entryEnd, reachOf, reachAt, stepAt, originsStep, apartAt}
+use Rattle.held.specs.Parts.{lastBegins, lastEnds, tileApart, apartHeld}
 use Rattle.held.proofs.Pieces.{holes-same, Linked, inside, across, linked}
 
 -- ---- the filetype, where the etype has entries and the filetype instances

@@ -1,4 +1,3 @@
-pub mod Fitting
 pub mod Chains
 pub mod Pieces
 pub mod Instances

@@ -1,5 +1,5 @@
 -- What the functions of this crate test of one lent number, and how their loops go on.
-use Prim.Native.Nat.{ℕ, _*_, _^_, _≤_, _<_}
+use Prim.Native.Nat.{ℕ, _^_, _≤_, _<_}
 use mathlib.Core.Bool.{Bool, true, false, not, true≢false}
 use mathlib.Core.List.{List}
 use mathlib.Core.Path.{_≡_, refl, sym, ap, _∙_}
@@ -11,7 +11,7 @@ use lib.IntN.{ℤ, pos, negsuc}
 use lib.ListN.{length, getD}
 use lib.Signed.{ltZ, mag}
 use mir.Syntax.{w64}
-use mir.Val.{Fits, SFits, toZ, ofZ, hbits}
+use mir.Val.{SFits, toZ, ofZ, hbits}
 use mir.Facts.{toZ-ofZ}
 use Rattle.laws.specs.Checks.{within}
 use Rattle.laws.specs.Search.{all}
@@ -21,7 +21,7 @@ use Rattle.view.specs.Limits.{widthAllowed, entryDisplacementAllowed, extentAll
 use Rattle.view.specs.Types.{entries, widthAt, whole}
 use Rattle.view.specs.Rules.{nativeName, isNative, entryAllowed, entriesAllowed}
 use Rattle.lent.specs.Lists.{lentType}
-use Rattle.held.specs.Parts.{entryFits}
+use Rattle.rules.specs.Parts.{entryFits}
 use Rattle.lent.specs.Parts.{nativeAt, countsAllowed, entryLent, typeLent}
 
 -- ---- the representation

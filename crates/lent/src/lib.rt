@@ -95,7 +95,7 @@ fn entry_allowed(w: u64, d: i64) -> bool
     if d < View::MIN_ENTRY_DISPLACEMENT {
         return false;
     }
-    held::entry_fits(w, view::natural(d))
+    rules::entry_fits(w, view::natural(d))
 }
 
 // Whether every entry of a type is allowed.

@@ -1,8 +1,8 @@
 -- `writes` follows the definition along its tests. Assumes nothing.
 use Rattle.laws.proofs.Booleans.{checks}
 use Rattle.view.specs.Rules.{allowsWriting}
-use Rattle.held.proofs.writes.Statement.{statement}
-use Rattle.held.proofs.writes.Tie as tie
+use Rattle.rules.proofs.writes.Statement.{statement}
+use Rattle.rules.proofs.writes.Tie as tie
 
 returns : tie.Need-returns
 unfolding allowsWriting

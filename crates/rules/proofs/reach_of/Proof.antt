@@ -1,10 +1,10 @@
 -- `reach_of` takes the greatest of the entries' ends. Assumes nothing.
 use Prim.Native.Nat.{_-_}
 use Rattle.laws.proofs.Sums.{Highest}
-use Rattle.held.specs.Parts.{entryEnd, EntriesKept}
-use Rattle.held.proofs.Fitting.{reaching}
-use Rattle.held.proofs.reach_of.Statement.{statement}
-use Rattle.held.proofs.reach_of.Tie as tie
+use Rattle.rules.specs.Parts.{entryEnd, EntriesKept}
+use Rattle.rules.proofs.Fitting.{reaching}
+use Rattle.rules.proofs.reach_of.Statement.{statement}
+use Rattle.rules.proofs.reach_of.Tie as tie
 
 abbrev Inv-loop : tie.InvT-loop
 Inv-loop n widths displacements reach₀ i₀ reach i = EntriesKept n widths displacements × Highest (entryEnd widths displacements) i n reach

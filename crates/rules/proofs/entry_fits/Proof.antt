@@ -1,10 +1,10 @@
 -- `entry_fits` follows the definition; the end of an entry is added up only where it cannot wrap. Assumes nothing.
 use Rattle.laws.proofs.Booleans.{checks}
-use Rattle.held.specs.Parts.{entryFits}
-use Rattle.held.proofs.Fitting.{entry-past, entry-end-fits}
+use Rattle.rules.specs.Parts.{entryFits}
+use Rattle.rules.proofs.Fitting.{entry-past, entry-end-fits}
 use borrow.Author.Needs.{needs}
-use Rattle.held.proofs.entry_fits.Statement.{statement}
-use Rattle.held.proofs.entry_fits.Tie as tie
+use Rattle.rules.proofs.entry_fits.Statement.{statement}
+use Rattle.rules.proofs.entry_fits.Tie as tie
 
 width-allowed-requires : tie.Need-width-allowed-requires
 width-allowed-requires c κs = search needs

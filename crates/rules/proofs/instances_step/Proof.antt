@@ -1,10 +1,10 @@
 -- `instances_step` passes the instances in order and leaves at the first that reaches past the next. Assumes nothing.
 use Prim.Native.Nat.{_-_, _≤_}
 use Rattle.laws.proofs.Searching.{Passed}
-use Rattle.held.specs.Parts.{originsStep, stepAt, OriginsKept}
-use Rattle.held.proofs.Fitting.{stepping}
-use Rattle.held.proofs.instances_step.Statement.{statement}
-use Rattle.held.proofs.instances_step.Tie as tie
+use Rattle.rules.specs.Parts.{originsStep, stepAt, OriginsKept}
+use Rattle.rules.proofs.Fitting.{stepping}
+use Rattle.rules.proofs.instances_step.Statement.{statement}
+use Rattle.rules.proofs.instances_step.Tie as tie
 
 abbrev Inv-loop : tie.InvT-loop
 Inv-loop a b k origins last g₀ g = OriginsKept k origins × (a ≤ 1048576) × (b ≤ 1048576) × Passed (stepAt origins a b) g (k - 1)

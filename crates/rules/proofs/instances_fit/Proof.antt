@@ -1,10 +1,10 @@
 -- `instances_fit` passes the instances in order and leaves at the first that reaches past the limit. Assumes nothing.
 use Prim.Native.Nat.{_-_, _≤_}
 use Rattle.laws.proofs.Searching.{Passed}
-use Rattle.held.specs.Parts.{reachAt}
-use Rattle.held.proofs.Fitting.{reaching-origins}
-use Rattle.held.proofs.instances_fit.Statement.{statement}
-use Rattle.held.proofs.instances_fit.Tie as tie
+use Rattle.rules.specs.Parts.{reachAt}
+use Rattle.rules.proofs.Fitting.{reaching-origins}
+use Rattle.rules.proofs.instances_fit.Statement.{statement}
+use Rattle.rules.proofs.instances_fit.Tie as tie
 
 abbrev Inv-loop : tie.InvT-loop
 Inv-loop reach k origins g₀ g = (k ≤ 64) × (reach ≤ 1048576) × Passed (reachAt origins reach) g k

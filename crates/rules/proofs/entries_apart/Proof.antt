@@ -1,10 +1,10 @@
 -- `entries_apart` passes the entries in order and leaves at the first that ends past the next one's beginning. Assumes nothing.
 use Prim.Native.Nat.{_-_}
 use Rattle.laws.proofs.Searching.{Passed}
-use Rattle.held.specs.Parts.{apartAt, EntriesKept}
-use Rattle.held.proofs.Fitting.{parting}
-use Rattle.held.proofs.entries_apart.Statement.{statement}
-use Rattle.held.proofs.entries_apart.Tie as tie
+use Rattle.rules.specs.Parts.{apartAt, EntriesKept}
+use Rattle.rules.proofs.Fitting.{parting}
+use Rattle.rules.proofs.entries_apart.Statement.{statement}
+use Rattle.rules.proofs.entries_apart.Tie as tie
 
 abbrev Inv-loop : tie.InvT-loop
 Inv-loop n widths displacements last i₀ i = EntriesKept n widths displacements × Passed (apartAt widths displacements) i (n - 1)

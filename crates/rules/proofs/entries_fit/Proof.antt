@@ -1,10 +1,10 @@
 -- `entries_fit` passes the entries in order and leaves at the first that breaks the rule. Assumes nothing.
 use Prim.Native.Nat.{_-_}
 use Rattle.laws.proofs.Searching.{Passed}
-use Rattle.held.specs.Parts.{entryHeld}
-use Rattle.held.proofs.Fitting.{entering}
-use Rattle.held.proofs.entries_fit.Statement.{statement}
-use Rattle.held.proofs.entries_fit.Tie as tie
+use Rattle.rules.specs.Parts.{entryHeld}
+use Rattle.rules.proofs.Fitting.{entering}
+use Rattle.rules.proofs.entries_fit.Statement.{statement}
+use Rattle.rules.proofs.entries_fit.Tie as tie
 
 abbrev Inv-loop : tie.InvT-loop
 Inv-loop n widths displacements i₀ i = Passed (entryHeld widths displacements) i n

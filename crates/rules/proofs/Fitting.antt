@@ -18,7 +18,7 @@ use Rattle.laws.proofs.Searching.{Passed, passed-none, passed-more, passed-fail
 use Rattle.view.specs.Limits.{widthAllowed}
 use Rattle.view.specs.Rules.{ordered}
 use Rattle.view.proofs.Accepted.{width-small}
-use Rattle.held.specs.Parts.{entryFits, entryHeld, entryEnd, EntriesKept, OriginsKept, reachOf, reachAt, stepAt, apartAt}
+use Rattle.rules.specs.Parts.{entryFits, entryHeld, entryEnd, EntriesKept, OriginsKept, reachOf, reachAt, stepAt, apartAt}
 
 -- ---- one entry
 

@@ -1,10 +1,10 @@
 -- `holes_fit` passes the holes in order: the first, those between instances, the last. Assumes nothing.
 use Prim.Native.Nat.{_-_, _+_, _≤_, _<_}
 use Rattle.laws.proofs.Searching.{Passed}
-use Rattle.held.specs.Parts.{holeFits}
-use Rattle.held.proofs.Chains.{holing, holes-last}
-use Rattle.held.proofs.holes_fit.Statement.{statement}
-use Rattle.held.proofs.holes_fit.Tie as tie
+use Rattle.rules.specs.Parts.{holeFits}
+use Rattle.rules.proofs.Holes.{holing, holes-last}
+use Rattle.rules.proofs.holes_fit.Statement.{statement}
+use Rattle.rules.proofs.holes_fit.Tie as tie
 
 abbrev Inv-loop : tie.InvT-loop
 Inv-loop e k extent origins i₀ i = (1 ≤ i) × (i ≤ k) × (k ≤ 64) × (0 < e) × Passed (holeFits origins k e extent) i (k + 1)

@@ -1,8 +1,8 @@
 -- `width_allowed` follows the definition along its tests. Assumes nothing.
 use Rattle.laws.proofs.Booleans.{checks}
 use Rattle.view.specs.Limits.{widthAllowed}
-use Rattle.held.proofs.width_allowed.Statement.{statement}
-use Rattle.held.proofs.width_allowed.Tie as tie
+use Rattle.rules.proofs.width_allowed.Statement.{statement}
+use Rattle.rules.proofs.width_allowed.Tie as tie
 
 returns : tie.Need-returns
 unfolding widthAllowed
