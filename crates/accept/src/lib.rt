@@ -183,6 +183,7 @@ fn refused(refusal: u64) -> Accepted
 }
 
 // The view that lent lists make, accepted for a mode exactly if document 01's rules hold, or its refusal number.
+// `ew`, `ed`, `ex` are the etype's widths, displacements and extent; `fw`, `fd`, `fx` the filetype's.
 pub fn accept(
     mode: u64,
     representation: &[u8],

@@ -114,6 +114,7 @@ fn entries_allowed(ws: &[u64], ds: &[i64]) -> bool
 }
 
 // The refusal number of checks 2 to 6, or 0. For our own crates.
+// `ew`, `ed`, `ex` are the etype's widths, displacements and extent; `fw`, `fd`, `fx` the filetype's.
 pub fn limits_refusal(
     representation: &[u8],
     displacement: i64,
