@@ -4,7 +4,7 @@ ghost use mathlib.Core.Bool.{true};
 ghost use mathlib.Core.Path.{_≡_};
 ghost use Prim.Native.Nat.{_<_, _-_};
 ghost use Rattle.view.specs.Types.{paper};
-ghost use Rattle.view.specs.Rules.{ordered, accepted};
+ghost use Rattle.view.specs.Rules.{accepted};
 ghost use Rattle.held.specs.Parts.{etypeHeld, filetypeHeld, apartHeld, ShapeKept};
 use view::Etype;
 use view::Filetype;
