@@ -23,7 +23,7 @@ use Rattle.file.specs.declared.Owned.{Owned}
 use Rattle.file.specs.declared.Ended.{Ended}
 use Rattle.file.specs.declared.Moved.{Moved}
 use Rattle.file.specs.Handles.{viewOf, freshHandle, modeGot, withPointer, withView, withSize}
-use Rattle.file.specs.Refusals.{openRefusal, setViewRefusal, placeRefusal, reverseRefusal, endRefusal, seekTarget, seekRefusal, readRefusal, writeRefusal}
+use Rattle.file.specs.Refusals.{openRefusal, setViewRefusal, giveBackRefusal, placeRefusal, reverseRefusal, endRefusal, seekTarget, seekRefusal, readRefusal, writeRefusal}
 
 -- ---- open: the default view, pointer 0 and the mode got; a refused one has mode 0
 
@@ -41,12 +41,14 @@ setViewAnswer h representation v =
 
 -- ---- giving back: four lists, both entry counts, both extents, the displacement
 
+-- entry count and extent of a type, 0 if refused
 unfoldable pub shapeGiven : ℕ → PaperType → TypeShape
 shapeGiven n t = record { entries = granted n (entries t) 0; extent = granted n (extentOf t) 0 }
 
--- n is the call's refusal number
-unfoldable pub giveBackAnswer : Handle → ℕ → ViewGiven
-giveBackAnswer h n =
+-- by the lengths of the four lent lists
+unfoldable pub giveBackAnswer : Handle → ℕ → ℕ → ℕ → ℕ → ViewGiven
+giveBackAnswer h ew ed fw fd =
+    let n = giveBackRefusal h ew ed fw fd in
     record {
       refusal = n;
       count = 0;
@@ -56,7 +58,7 @@ giveBackAnswer h n =
       filetype = shapeGiven n (viewOf h .filetype);
     }
 
--- a lent list of widths, and one of displacements, after it; what lies after the used places stays
+-- a lent list of widths, and one of displacements, after a call with refusal number n; what lies after the used places stays
 unfoldable pub widthsGiven : ℕ → PaperType → List ℕ → List ℕ
 widthsGiven n t l = granted n (front (widthAt t) (entries t) l) l
 

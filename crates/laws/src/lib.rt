@@ -1,4 +1,4 @@
-// General definitions and laws on searches, maxima, sums, stores into lists and refusal chains, and two small functions. Nothing of MPI.
+// General definitions and laws on searches, maxima, sums, stores into lists and refusal chains, and two small functions for our own crates. Nothing of MPI.
 ghost use mathlib.Core.Path.{_≡_};
 ghost use Prim.Native.Nat.{_-_, max};
 

@@ -130,7 +130,7 @@ setRefusal mode representation v = check (isNative representation) 2 (viewRefusa
 unfoldable pub accepted : ℕ → PaperView → Bool
 accepted mode v = eqb (viewRefusal mode v) 0
 
--- the same of a mode that does not write: every limit and rule but overlap's, which each accepted view keeps
+-- every limit and rule but overlap's: accepted for reading. Each view that is accepted for some mode keeps these (`accepted-kept`)
 pub record Kept (v : PaperView) : Type 0 where
   pub keeps : accepted 1 v ≡ true
 
