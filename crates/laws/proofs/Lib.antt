@@ -3,3 +3,4 @@ pub mod Searching
 pub mod Sums
 pub mod Stores
 pub mod Quotients
+pub mod Runs

@@ -1,11 +1,12 @@
 -- Laws of `greatest` and `total`.
-use Prim.Native.Nat.{ℕ, zero, suc, _+_, _≤_, _<_, max}
+use Prim.Native.Nat.{ℕ, zero, suc, _+_, _*_, _≤_, _<_, max}
 use mathlib.Core.Logic.{⊎-elim}
 use mathlib.Core.Path.{_≡_, refl, ap, _∙_}
 use native.Mathlib.Nat.{eq-or-lt-of-le}
 use native.Mathlib.Numerals.{add-one}
 use native.Mathlib.Omega.{arith}
 use Rattle.laws.specs.Search.{greatest, total}
+use Rattle.laws.proofs.Quotients.{times-more}
 use Rattle.laws.proofs.Booleans.{lt-or-le}
 
 -- each is at most the greatest
@@ -77,3 +78,9 @@ total-same f g (suc n) h =
     let a = total-same f g n (λ i l. h i (omega arith)) in
     let b = h n (omega arith) in
     cc
+
+-- parts that are at most b each
+pub total-most : (f : ℕ → ℕ) (n b : ℕ) → ((i : ℕ) → i < n → f i ≤ b) → total f n ≤ n * b
+unfolding total
+total-most f zero b h = omega arith
+total-most f (suc n) b h = rw (← add-one n, times-more n b) (omega (arith, total-most f n b (λ i l. h i (omega arith)), h n (omega arith)))

@@ -16,12 +16,15 @@ use Rattle.laws.specs.Lists.{nth}
 use Rattle.laws.specs.Search.{greatest}
 use Rattle.laws.proofs.Sums.{Highest, highest-none, highest-more, highest-end, greatest-least, greatest-same}
 use Rattle.laws.proofs.Booleans.{not-both, lt-or-le}
+use Rattle.laws.proofs.Quotients.{next-in, next-over, times-more}
 use Rattle.view.specs.declared.View.{View}
 use Rattle.view.specs.Limits.{offsetAllowed}
 use Rattle.view.specs.Types.{paper, entries, whole}
 use Rattle.view.specs.Rules.{instances, Kept}
 use Rattle.view.specs.Places.{place}
 use Rattle.view.specs.End.{endFrom, endOfFile}
+use Rattle.locate.specs.declared.Spot.{Spot}
+use Rattle.locate.specs.Spots.{SpotAt, nextSpot, SpotKept}
 use Rattle.view.proofs.Paper.{paper-entries, paper-instances, paper-origin, paper-place, paper-file-extent, paper-start}
 use Rattle.view.proofs.Accepted.{Facts, facts, instances-some, instances-few, origin-small}
 
@@ -29,6 +32,9 @@ offset-small : (z : ℤ) → offsetAllowed z ≡ true → whole z ≤ 4294967295
 unfolding offsetAllowed whole
 offset-small (pos o) h = omega (arith, ltb-true o 4294967296 h)
 offset-small (negsuc o) h = not-both h refl
+
+pub offset-below : (z : ℤ) → offsetAllowed z ≡ true → whole z < 4294967296
+offset-below z h = omega (arith, offset-small z h)
 
 -- ---- the end of one instance
 
@@ -54,7 +60,7 @@ unfolding endOn
 end-on v size i e h = h
 
 -- the machine's reading of an offset's bits is the offset
-offset-read : (z : ℤ) → offsetAllowed z ≡ true → toZ w64 (ofZ w64 z) ≡ z
+pub offset-read : (z : ℤ) → offsetAllowed z ≡ true → toZ w64 (ofZ w64 z) ≡ z
 unfolding offsetAllowed
 offset-read (pos o) h = toZ-ofZ {w = w64} {z = pos o} (record { sfits = omega (arith, ltb-true o 4294967296 h) })
 offset-read (negsuc o) h = not-both h refl
@@ -62,6 +68,17 @@ offset-read (negsuc o) h = not-both h refl
 -- an index into the origins, scaled by their width
 pub origin-scaled : (i : ℕ) → i < 64 → Fits w64 (i * 8)
 origin-scaled i l = record { fits = omega arith }
+
+-- ---- the two answers of a step
+
+module _ (s : Spot) (k f : ℕ) where
+  pub step-inside : s .instance + 1 < k → record { tile = s .tile; instance = s .instance + 1 } ≡ nextSpot s k f
+  unfolding nextSpot
+  step-inside l = rw (lt-ltb (s .instance + 1) k l)
+
+  pub step-over : k ≤ s .instance + 1 → record { tile = record { 0 = s .tile .0 + f }; instance = 0 } ≡ nextSpot s k f
+  unfolding nextSpot
+  step-over l = rw (le-ltb (s .instance + 1) k l)
 
 -- ---- what the record of a kept view holds
 
@@ -102,9 +119,6 @@ module _ (v : View) (k : Kept (paper v)) where
         let a : whole o / v .filetype .instances ≤ 4294967295 = omega (arith, offset-small o ok) in
         mul-le-mul a extent-small
 
-    instance-below : whole o % v .filetype .instances < v .filetype .instances
-    instance-below = mod-lt (whole o) {m = v .filetype .instances} record-some
-
     -- `at` is the offset as the machine reads it
     module _ (at : ℕ) (read : at ≡ whole (toZ w64 (ofZ w64 o))) where
       e : at ≡ whole o
@@ -113,17 +127,78 @@ module _ (v : View) (k : Kept (paper v)) where
       pub step-fits : Fits w64 (at / v .filetype .instances * v .filetype .extent)
       step-fits = rw e (record { fits = omega (arith, tiles) })
 
-      pub begin-fits : Fits w64 (v .displacement + at / v .filetype .instances * v .filetype .extent)
-      begin-fits = rw e (record { fits = omega (arith, tiles, start-small) })
+      pub tile-fits : Fits w64 (v .displacement + at / v .filetype .instances * v .filetype .extent)
+      tile-fits = rw e (record { fits = omega (arith, tiles, start-small) })
 
-      pub place-fits : Fits w64 (v .displacement + at / v .filetype .instances * v .filetype .extent + getD (v .filetype .origins) (at % v .filetype .instances) 0)
-      place-fits = rw e (record { fits = omega (arith, tiles, start-small, record-origin (whole o % v .filetype .instances) instance-below) })
+      pub spot-made : SpotAt (paper v) (whole o) (record { tile = record { 0 = v .displacement + at / v .filetype .instances * v .filetype .extent }; instance = at % v .filetype .instances })
+      spot-made = record {
+        tile = rw (e, paper-instances v some-entry, paper-start v, paper-file-extent v);
+        instance = rw (e, paper-instances v some-entry);
+      }
 
-      pub instance-in : at % v .filetype .instances < 64
-      instance-in = rw e (omega (arith, instance-below, record-few))
+  -- ---- the spot of an offset
 
-      pub place-is : v .displacement + at / v .filetype .instances * v .filetype .extent + getD (v .filetype .origins) (at % v .filetype .instances) 0 ≡ place (paper v) (whole o)
-      place-is = rw e (sym (paper-place v some-entry record-some (whole o)))
+  tile-small : (x : ℕ) → x < 4294967296 → x / v .filetype .instances * v .filetype .extent ≤ 4503599626321920
+  tile-small x l =
+      let q = div-le-self x (v .filetype .instances) in
+      let a : x / v .filetype .instances ≤ 4294967295 = omega arith in
+      mul-le-mul a extent-small
+
+  module _ (x : ℕ) (s : Spot) (at : SpotAt (paper v) x s) where
+    spot-tile : s .tile .0 ≡ v .displacement + x / v .filetype .instances * v .filetype .extent
+    spot-tile = rw (paper-instances v some-entry, paper-start v, paper-file-extent v) at (at .tile)
+
+    spot-instance : s .instance ≡ x % v .filetype .instances
+    spot-instance = rw (paper-instances v some-entry) at (at .instance)
+
+    instance-below : s .instance < v .filetype .instances
+    instance-below = rw spot-instance (mod-lt x {m = v .filetype .instances} record-some)
+
+    pub spot-held : s .instance < 64
+    spot-held = omega (arith, instance-below, record-few)
+
+    -- where the etype at x begins
+    pub spot-place : s .tile .0 + nth (v .filetype .origins) (s .instance) ≡ place (paper v) x
+    spot-place = rw (spot-tile, spot-instance) (sym (paper-place v some-entry record-some x))
+
+    pub spot-placed : (r : ℕ) → r ≡ s .tile .0 + nth (v .filetype .origins) (s .instance) → r ≡ place (paper v) x
+    spot-placed r e = e ∙ spot-place
+
+    module _ (l : x < 4294967296) where
+      pub spot-step : s .tile .0 + v .filetype .extent < 18446744073709551616
+      spot-step = omega (arith, spot-tile, tile-small x l, start-small, extent-small)
+
+      -- no etype begins past this
+      pub spot-small : s .tile .0 + nth (v .filetype .origins) (s .instance) < 4505798650626048
+      spot-small = omega (arith, spot-tile, tile-small x l, start-small, record-origin (s .instance) instance-below)
+
+      pub spot-kept : SpotKept (v .filetype) s
+      spot-kept = record { held = spot-held; fits = omega (arith, spot-small) }
+
+    -- a step leads to the spot of the next offset
+    module _ (r : Spot) (q : r ≡ nextSpot s (v .filetype .instances) (v .filetype .extent)) where
+      next-inside : s .instance + 1 < v .filetype .instances → SpotAt (paper v) (x + 1) r
+      unfolding nextSpot
+      next-inside b =
+          let z = rw (lt-ltb (s .instance + 1) (v .filetype .instances) b) at q in
+          let n = next-in (v .filetype .instances) x (omega (arith, spot-instance)) in
+          record {
+            tile = rw (z, paper-instances v some-entry, paper-start v, paper-file-extent v, n .0) spot-tile;
+            instance = rw (z, paper-instances v some-entry, n .1) (omega (arith, spot-instance));
+          }
+
+      next-tile : v .filetype .instances ≤ s .instance + 1 → SpotAt (paper v) (x + 1) r
+      unfolding nextSpot
+      next-tile b =
+          let z = rw (le-ltb (s .instance + 1) (v .filetype .instances) b) at q in
+          let n = next-over (v .filetype .instances) x record-some (omega (arith, spot-instance, instance-below)) in
+          record {
+            tile = rw (z, paper-instances v some-entry, paper-start v, paper-file-extent v, n .0, times-more (x / v .filetype .instances) (v .filetype .extent)) (omega (arith, spot-tile));
+            instance = rw (z, paper-instances v some-entry, n .1);
+          }
+
+      pub spot-next : SpotAt (paper v) (x + 1) r
+      spot-next = ⊎-elim next-inside next-tile (lt-or-le (s .instance + 1) (v .filetype .instances))
 
   -- ---- end of file
 
@@ -151,6 +226,6 @@ module _ (v : View) (k : Kept (paper v)) where
       let b = greatest-least (endOn v size) i 70368744177729 (λ k l. end-small size k hs (omega (arith, h .reached))) in
       omega (arith, h .is)
 
-pub ruleset placing = (needs, record-some, step-fits, begin-fits, place-fits, instance-in, origin-scaled, place-is)
+pub ruleset placing = (needs, record-some, step-fits, tile-fits, spot-made, origin-scaled, step-inside, step-over, offset-below, spot-kept, spot-placed)
 
 pub ruleset ending = (needs, origin-below, origin-scaled, highest-none, highest-more, end-on, record-few, record-extent, start-fits, end-found, end-signed)

@@ -1,32 +1,84 @@
-// Where things lie in a view: the place of an offset, and end of file.
+// Where things lie in a view: the place of an offset, the places of the offsets after it, and end of file.
 // These functions are pub for our own crates: a handle's calls test handle, offset and file first, and meet what is required here.
 ghost use mathlib.Core.Bool.{true};
 ghost use mathlib.Core.Path.{_≡_};
-ghost use Prim.Native.Nat.{_≤_, _<_};
+ghost use Prim.Native.Nat.{_+_, _≤_, _<_};
 ghost use lib.IntN.{pos};
+ghost use Rattle.laws.specs.Lists.{nth};
 ghost use Rattle.view.specs.Limits.{maxInstances, maxFileLength, offsetAllowed};
 ghost use Rattle.view.specs.Types.{paper, whole};
 ghost use Rattle.view.specs.Rules.{Kept};
 ghost use Rattle.view.specs.Places.{place};
 ghost use Rattle.view.specs.End.{endFrom, endOfFile};
+ghost use Rattle.locate.specs.Spots.{SpotAt, nextSpot, SpotKept};
 use view::BytePos;
+use view::Filetype;
 use view::Offset;
 use view::View;
 
-// The byte at which the etype at offset `o` begins: tile and instance by one division.
-pub fn place_of(v: View, o: Offset) -> BytePos
+// The tile and the instance of an offset: where its tile begins, and which instance of the tile it is.
+pub struct Spot {
+    pub tile: BytePos,
+    pub instance: u64,
+}
+
+// The spot of offset `o`, by the one division of an access. For our own crates.
+pub fn spot_of(v: View, o: Offset) -> Spot
     requires { ⌜ Kept (paper v) × (offsetAllowed (o .0) ≡ true) ⌝ }
-    ensures { λ r. ⌜ r .0 ≡ place (paper v) (whole (o .0)) ⌝ }
+    ensures { λ r. ⌜ SpotAt (paper v) (whole (o .0)) r ⌝ }
 {
     let at = view::natural(o.0);
     let filetype = v.filetype;
     let instances = filetype.instances;
-    let origins = filetype.origins;
     let tile = at / instances;
-    let instance = (at % instances) as usize;
     let step = tile * filetype.extent;
     let begin = v.displacement + step;
-    BytePos(begin + origins[instance])
+    let instance = at % instances;
+    Spot {
+        tile: BytePos(begin),
+        instance: instance,
+    }
+}
+
+// The spot of the offset after that of `s`, with no division. For our own crates.
+pub fn next_spot(s: Spot, instances: u64, extent: u64) -> Spot
+    requires { ⌜ (s .instance < maxInstances) × (s .tile .0 + extent < 18446744073709551616) ⌝ }
+    ensures { λ r. ⌜ r ≡ nextSpot s instances extent ⌝ }
+{
+    let tile = s.tile;
+    let next = s.instance + 1;
+    if next < instances {
+        return Spot {
+            tile: tile,
+            instance: next,
+        };
+    }
+    let after = tile.0 + extent;
+    Spot {
+        tile: BytePos(after),
+        instance: 0,
+    }
+}
+
+// Where the etype at a spot begins. For our own crates.
+pub fn begin_at(f: Filetype, s: Spot) -> BytePos
+    requires { ⌜ SpotKept f s ⌝ }
+    ensures { λ r. ⌜ r .0 ≡ s .tile .0 + nth (f .origins) (s .instance) ⌝ }
+{
+    let origins = f.origins;
+    let instance = s.instance as usize;
+    let tile = s.tile;
+    BytePos(tile.0 + origins[instance])
+}
+
+// The byte at which the etype at offset `o` begins. For our own crates.
+pub fn place_of(v: View, o: Offset) -> BytePos
+    requires { ⌜ Kept (paper v) × (offsetAllowed (o .0) ≡ true) ⌝ }
+    ensures { λ r. ⌜ r .0 ≡ place (paper v) (whole (o .0)) ⌝ }
+{
+    let spot = spot_of(v, o);
+    let filetype = v.filetype;
+    begin_at(filetype, spot)
 }
 
 // One past the last offset that is instance `i` of its tile and begins below `size`, or 0.

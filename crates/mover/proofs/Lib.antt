@@ -1,2 +1,4 @@
 pub mod Reading
 pub mod Writing
+pub mod Etypes
+pub mod Gathering

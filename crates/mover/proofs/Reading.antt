@@ -19,11 +19,11 @@ use Rattle.mover.specs.Moves.{AllBelow, IsMoved, inFile, moved, IsRead, 
 -- ---- how many etypes a read moves
 
 -- the test of one etype says that each of its data bytes lies below the size, and comes out true where they do
-in-file-at : (v : PaperView) (size x : ℕ) → inFile v size x ≡ true → (j : ℕ) → j < dataSize v → byteOf v x j < size
+pub in-file-at : (v : PaperView) (size x : ℕ) → inFile v size x ≡ true → (j : ℕ) → j < dataSize v → byteOf v x j < size
 unfolding inFile
 in-file-at v size x h j l = ltb-true _ _ (all-at _ (dataSize v) h j l)
 
-in-file : (v : PaperView) (size x : ℕ) → ((j : ℕ) → j < dataSize v → byteOf v x j < size) → inFile v size x ≡ true
+pub in-file : (v : PaperView) (size x : ℕ) → ((j : ℕ) → j < dataSize v → byteOf v x j < size) → inFile v size x ≡ true
 unfolding inFile
 in-file v size x h = all-intro _ (dataSize v) (λ j l. lt-ltb _ _ (h j l))
 

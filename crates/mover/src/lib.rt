@@ -1,1 +1,37 @@
-// What a read and a write do with the file's and the buffer's bytes. The definitions are in specs/.
+// Moving the data of an access between the file and the buffer, etype by etype. What a read and a write do is defined in specs/Moves.antt.
+// These functions are pub for our own crates: a handle's calls make checks 1, 12 and 13 first, and meet what is required here.
+ghost use lib.ListN.{length};
+ghost use Rattle.mover.specs.Parts.{Movable, ReadDone};
+use view::Offset;
+use view::View;
+
+// Reads `count` etypes at `o` into the buffer and answers how many lie in the file: it stops at the first that does not.
+// It divides once, for the first offset, and then steps from instance to instance and from tile to tile.
+pub fn gather(v: View, file: &[u8], size: u64, o: Offset, count: u64, buf: &mut [u8]) -> u64
+    requires { ⌜ Movable v (length (now file)) size (o .0) count (length (now buf)) ⌝ }
+    ensures { λ r. ⌜ ReadDone v (now (file .entry)) size (o .0) count (now (buf .entry)) r (now (buf .exit)) ⌝ }
+{
+    if count == 0 {
+        return 0;
+    }
+    let etype = v.etype;
+    let filetype = v.filetype;
+    let packed = copier::data_size(etype);
+    let reach = rules::reach_of(etype);
+    let first = view::natural(o.0);
+    let last = first + count;
+    let mut spot = locate::spot_of(v, o);
+    let mut x = first;
+    while x < last {
+        let place = locate::begin_at(filetype, spot);
+        let end = place.0 + reach;
+        if size < end {
+            return x - first;
+        }
+        let from = ((x - first) * packed) as usize;
+        copier::copy_out(etype, file, place, &mut buf[from..]);
+        spot = locate::next_spot(spot, v.filetype.instances, v.filetype.extent);
+        x += 1;
+    }
+    count
+}

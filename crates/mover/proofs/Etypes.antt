@@ -1,0 +1,99 @@
+-- The etype of a kept view as the copier takes it: its data are the view's, and it lies in the file exactly if its farthest entry does.
+use Prim.Native.Nat.{ℕ, _+_, _-_, _≤_, _<_}
+use mathlib.Core.Bool.{Bool, true, false}
+use mathlib.Core.Logic.{⊎-elim}
+use mathlib.Core.Path.{_≡_, refl, sym, ap, _∙_}
+use native.Mathlib.Nat.{eq-zero-or-pos}
+use native.Mathlib.Omega.{arith}
+use Rattle.laws.specs.Search.{total}
+use Rattle.laws.specs.Lists.{nth}
+use Rattle.laws.proofs.Booleans.{lt-or-le, not-both}
+use Rattle.laws.proofs.Sums.{greatest-least, greatest-above, greatest-one, total-same}
+use Rattle.view.specs.declared.View.{View}
+use Rattle.view.specs.Types.{PaperView, paper, entries, widthAt, displacementAt, whole}
+use Rattle.view.specs.Rules.{Kept}
+use Rattle.view.specs.Places.{place, packedBefore, entryOf, dataAt, byteOf, dataSize}
+use Rattle.view.proofs.Paper.{paper-entries, paper-width, paper-displacement}
+use Rattle.view.proofs.Accepted.{Facts, facts}
+use Rattle.view.proofs.Packing.{packed-part, entry-below, entry-ends, entry-begins, data-run}
+use Rattle.rules.specs.Parts.{EntriesKept, entryEnd, reachOf}
+use Rattle.copier.specs.Parts.{typeOf, sizeOf, placeIn}
+use Rattle.mover.specs.Moves.{inFile}
+use Rattle.mover.proofs.Reading.{in-file, in-file-at}
+
+not-true-false : (b : Bool) → (b ≡ true → ⊥) → b ≡ false
+not-true-false true h = absurd (h refl)
+not-true-false false h = refl
+
+-- how far the etype's entries reach
+abbrev pub reach : View → ℕ
+reach v = reachOf (v .etype .widths) (v .etype .displacements) (v .etype .entries)
+
+module _ (v : View) (k : Kept (paper v)) where
+  kept : Facts (paper v)
+  kept = facts (paper v) k
+
+  -- entry i of the record, and of the paper
+  entry-end : (i : ℕ) → i < v .etype .entries → entryEnd (v .etype .widths) (v .etype .displacements) i ≡ displacementAt (paper v .etype) i + widthAt (paper v .etype) i
+  entry-end i l = omega (arith, paper-width v i l, paper-displacement v i l)
+
+  pub entries-kept : EntriesKept (v .etype .entries) (v .etype .widths) (v .etype .displacements)
+  entries-kept = record {
+    some = omega (arith, paper-entries v, kept .some);
+    few = omega (arith, paper-entries v, kept .few);
+    ends = λ i l. omega (arith, entry-end i l, kept .ends i (omega (arith, paper-entries v)));
+  }
+
+  pub data-is : sizeOf (v .etype .entries) (v .etype .widths) ≡ dataSize (paper v)
+  unfolding sizeOf dataSize packedBefore
+  data-is = sym (ap (total (widthAt (paper v .etype))) (paper-entries v) ∙ total-same _ _ (v .etype .entries) (λ i l. paper-width v i l))
+
+  pub place-in : (x j : ℕ) → placeIn (v .etype .entries) (v .etype .widths) (v .etype .displacements) (place (paper v) x) j ≡ byteOf (paper v) x j
+  unfolding placeIn byteOf typeOf dataAt entryOf packedBefore entries widthAt displacementAt whole paper
+  place-in x j = refl
+
+  pub reach-small : reach v ≤ 1048576
+  unfolding reachOf
+  reach-small = greatest-least _ (v .etype .entries) 1048576 (entries-kept .ends)
+
+  -- entry i ends within the reach
+  entry-reached : (i : ℕ) → i < entries (paper v .etype) → displacementAt (paper v .etype) i + widthAt (paper v .etype) i ≤ reach v
+  unfolding reachOf
+  entry-reached i l =
+      let b : i < v .etype .entries = omega (arith, paper-entries v) in
+      omega (arith, entry-end i b, greatest-above (entryEnd (v .etype .widths) (v .etype .displacements)) (v .etype .entries) i b)
+
+  -- an entry that ends at the reach: one is there, since no width is 0
+  farthest : (i : ℕ) × ((i < entries (paper v .etype)) × (displacementAt (paper v .etype) i + widthAt (paper v .etype) i ≡ reach v))
+  unfolding reachOf
+  farthest =
+      let w = kept .width 0 (kept .some) .0 in
+      let g = greatest-one (entryEnd (v .etype .widths) (v .etype .displacements)) (v .etype .entries) (omega (arith, entry-reached 0 (kept .some))) in
+      (g .0, (omega (arith, paper-entries v, g .1 .0), omega (arith, entry-end (g .0) (g .1 .0), g .1 .1)))
+
+  -- each data byte lies before the reach
+  data-before : (j : ℕ) → j < dataSize (paper v) → dataAt (paper v .etype) j < reach v
+  unfolding dataAt dataSize
+  data-before j l =
+      let t = paper v .etype in
+      omega (arith, entry-reached (entryOf t j) (entry-below t j l), entry-ends t j l, entry-begins t j l)
+
+  -- and one lies just before it
+  data-last : (j : ℕ) × ((j < dataSize (paper v)) × (dataAt (paper v .etype) j + 1 ≡ reach v))
+  unfolding dataSize
+  data-last =
+      let t = paper v .etype in
+      let i = farthest .0 in
+      let l = farthest .1 .0 in
+      let w = kept .width i l .0 in
+      let r : widthAt t i - 1 < widthAt t i = omega arith in
+      (packedBefore t i + (widthAt t i - 1), (omega (arith, packed-part t i (entries t) l), omega (arith, data-run t i (widthAt t i - 1) l r, farthest .1 .1)))
+
+  module _ (size x : ℕ) where
+    pub in-file-yes : place (paper v) x + reach v ≤ size → inFile (paper v) size x ≡ true
+    unfolding byteOf
+    in-file-yes h = in-file (paper v) size x (λ j l. omega (arith, data-before j l))
+
+    pub in-file-no : size < place (paper v) x + reach v → inFile (paper v) size x ≡ false
+    unfolding byteOf
+    in-file-no h = not-true-false (inFile (paper v) size x) (λ e. let b = in-file-at (paper v) size x e (data-last .0) (data-last .1 .0) in omega (arith, data-last .1 .1))

@@ -1,0 +1,26 @@
+-- What the movers ask of their callers, and what they leave.
+use Prim.Native.Nat.{ℕ, _+_, _*_, _≤_, _<_}
+use mathlib.Core.Bool.{true}
+use mathlib.Core.List.{List}
+use mathlib.Core.Path.{_≡_}
+use lib.IntN.{ℤ}
+use Rattle.view.specs.declared.View.{View}
+use Rattle.view.specs.Limits.{offsetCount, maxFileLength, offsetAllowed}
+use Rattle.view.specs.Types.{paper, whole}
+use Rattle.view.specs.Rules.{Kept}
+use Rattle.view.specs.Places.{dataSize}
+use Rattle.mover.specs.Moves.{moved, readInto}
+
+-- c etypes at o may be moved between a buffer of `buffer` bytes and a file of `len` bytes: what checks 1, 12 and 13 leave
+pub record Movable (v : View) (len size : ℕ) (o : ℤ) (c buffer : ℕ) : Type 0 where
+  pub kept : Kept (paper v)
+  pub short : size ≤ len
+  pub limit : len ≤ maxFileLength
+  pub offset : 0 < c → offsetAllowed o ≡ true
+  pub last : whole o + c ≤ offsetCount
+  pub room : c * dataSize (paper v) ≤ buffer
+
+-- what a read of c etypes at o moves, and what it leaves in the buffer
+pub record ReadDone (v : View) (file : List ℕ) (size : ℕ) (o : ℤ) (c : ℕ) (before : List ℕ) (m : ℕ) (after : List ℕ) : Type 0 where
+  pub count : m ≡ moved (paper v) size (whole o) c
+  pub buffer : after ≡ readInto (paper v) file (whole o) m before
