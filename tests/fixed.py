@@ -1,0 +1,746 @@
+"""The fixed script: document 01's figures, its six errors, both ends of each limit and the orders of checks.
+
+Each row states a record with what document 01 says of its line; `faults` compares that with the model's lines.
+Writes and the reverse lookup have no record yet; the places of their rows are marked "later".
+"""
+
+from dataclasses import dataclass, replace
+
+from model import run
+from scripts import (ALL_ONES, LARGEST, LINE, SMALLEST, Request, Shape, decode, end, field, file_record, forged, give_back, new_file,
+                     open_handle, place, read_at, read_here, record, seek, set_view, words)
+
+MEGA = 1_048_576
+BYTES = Shape((1,), (0,), 1, (0,), 1)  # the default view
+FIRST = words((4,), 12, 100)  # P1
+LOOSE = Shape((4, 1), (0, 4), 8, (0, 16), 24)  # P8
+
+
+@dataclass(frozen=True)
+class Row:
+    section: str
+    record: bytes
+    expected: dict  # numbers of the line by name
+
+
+class Script:
+    def __init__(self):
+        self.rows, self.section = [], ""
+
+    def add(self, record, refusal=0, **expected):
+        self.rows.append(Row(self.section, record, {"refusal": refusal, **expected}))
+
+    def open(self, slot, mode):
+        self.add(open_handle(slot, mode), pointer=0)
+
+    def set(self, slot, request, refusal=0, **expected):
+        if isinstance(request, Shape):
+            request = request.request()
+        self.add(set_view(slot, request), refusal, **expected)
+
+    def places(self, slot, expected):
+        for offset, byte in enumerate(expected):
+            self.add(place(slot, offset), a=byte)
+
+    def ends(self, slot, file, expected):
+        for size, offset in expected:
+            self.add(file_record(file, size))
+            self.add(end(slot, file), a=offset)
+
+
+# Document 01's figures
+
+def p1_to_p3(s):
+    s.section = "P1 to P3"
+    s.add(new_file(0, 200, 104, 1))
+    s.open(0, 1)
+    s.set(0, FIRST)
+    s.places(0, [104, 116, 128, 140])
+    s.ends(0, 0, [(0, 0), (104, 0), (105, 1), (116, 1), (117, 2), (128, 2), (129, 3)])
+    for size, moved in [(107, 0), (108, 1), (118, 1), (119, 1), (120, 2), (131, 2), (132, 3)]:
+        s.add(file_record(0, size))
+        s.add(read_at(0, 0, 0, 3, 16), count=moved, pointer=0)
+
+
+def p4_and_p5(s):
+    s.section = "P4, P5"
+    for mode in (1, 2, 3):
+        s.open(0, mode)
+        s.set(0, words((2,), 12), 9)
+        s.set(0, words((0, 2), 6), 0 if mode == 1 else 10)
+        s.add(place(0, 1), a=2 if mode == 1 else 1)
+
+
+def p6_and_p7(s):
+    s.section = "P6, P7"
+    for mode in (1, 2, 3):
+        s.open(0, mode)
+        s.set(0, words((0, 4), 4), 0 if mode == 1 else 10)
+    s.open(1, 1)
+    s.add(new_file(1, 64, 8, 3))
+    s.set(1, words((0, 4), 4))
+    s.places(1, [0, 4, 4, 8, 8])
+    s.ends(1, 1, [(4, 1), (5, 3), (8, 3), (9, 5)])
+    s.set(1, words((0, 8), 4))
+    s.places(1, [0, 8, 4, 12])
+    s.ends(1, 1, [(4, 1), (5, 3), (8, 3), (9, 5)])
+    s.add(file_record(1, 8))
+    s.add(read_at(1, 1, 0, 3, 12), count=1)
+    s.add(read_at(1, 1, 2, 3, 12), count=1)
+    s.set(1, words((0, 8, 16), 4))
+    s.ends(1, 1, [(5, 4), (8, 4), (9, 7), (13, 10), (17, 13), (33, 25)])
+    s.add(seek(1, 1, 0, 2), pointer=25)
+
+
+def p8_and_p9(s):
+    s.section = "P8, P9"
+    s.add(new_file(0, 60, 60, 5))
+    for mode in (2, 3):
+        s.open(2, mode)
+        s.set(2, LOOSE)
+        s.places(2, [0, 16, 24, 40])
+    # later: the reverse lookup of bytes 20, 21 and 24
+    s.add(read_at(2, 0, 0, 3, 15), count=3)
+    s.add(read_at(2, 0, 1, 2, 16), count=2)
+    s.set(2, words((4,), 12))
+    s.places(2, [4, 16])
+    # later: the write of 2 words at lengths 20 and 19
+
+
+def p10(s):
+    s.section = "P10"
+    s.add(new_file(0, 0, 0, 0))
+    s.open(0, 3)
+    s.add(seek(0, 0, 5, 0), pointer=5)
+    s.add(seek(0, 0, -6, 1), 12, pointer=5)
+    for offset in (LARGEST, SMALLEST):
+        for whence in (0, 1, 2):
+            s.add(seek(0, 0, offset, whence), 12, pointer=5)
+    s.add(seek(0, 0, -5, 1), pointer=0)
+
+
+def p11_and_p12(s):
+    s.section = "P11, P12"
+    s.add(new_file(0, 40, 40, 0))
+    s.open(0, 3)
+    s.add(read_at(0, 0, 2**32 - 1, 1, 8), count=0)
+    s.add(read_at(0, 0, 2**32 - 1, 2, 8), 12)
+    s.add(read_at(0, 0, 2**32, 0, 8), count=0)
+    s.add(read_at(0, 0, 2**32, 1, 8), 12)
+    shape = Shape((1,), (0,), 1, (0, 3), 2)
+    for mode, refusal in [(1, 0), (2, 10), (3, 10)]:
+        s.open(0, mode)
+        s.set(0, shape, refusal)
+
+
+# The six errors of document 01
+
+def six_errors(s):
+    s.section = "six errors"
+    s.add(new_file(0, 80, 30, 9))
+    s.add(forged(0, 3, 0, words((0, 4), 4)))
+    s.add(place(0, 0), 1)  # overlap with the next tile
+    s.open(0, 1)
+    s.set(0, words((4,), 12))
+    s.add(place(0, 2), a=28)  # the tile step
+    s.add(end(0, 0), a=3)
+    s.set(0, words((0, 20, 40), 4))
+    s.add(end(0, 0), a=22)  # places that fall
+    s.set(0, words((4,), 12))
+    s.add(read_at(0, 0, 2, 1, 4), count=0)  # a word that is half in the file
+    s.add(seek(0, 0, 7, 0), pointer=7)
+    s.set(0, words((2,), 12), 9, pointer=7)  # the pointer after a refused set
+    s.add(seek(0, 0, 1, 1), pointer=8)
+    s.set(0, LOOSE)
+    s.add(read_at(0, 0, 0, 2, 10), count=2)  # S = 5, E = 8
+    s.set(0, Shape((4, 4), (0, 2), 3, (0,), 3))
+    s.add(read_at(0, 0, 1, 2, 15), 13)  # S = 8, E = 3
+    s.add(read_at(0, 0, 1, 2, 16), count=2)
+
+
+# Open
+
+def opens(s):
+    s.section = "open"
+    s.add(new_file(0, 20, 20, 2))
+    for mode in (1, 2, 3):
+        s.open(3, mode)
+        s.add(read_at(3, 0, 0, 1, 1), 11 if mode == 2 else 0)
+    s.section = "open that names no mode"
+    s.open(3, 0)
+    s.add(read_at(3, 0, 3, 2, 2), count=2)
+    s.set(3, words((0, 2), 6), 10)
+    for mode in (4, 2**32 + 1, ALL_ONES):
+        s.section = f"refused open, mode {mode}"
+        s.add(open_handle(3, mode), 16, pointer=0)
+        s.add(place(3, 0), 1)
+    every_call(s, 3, 0, 1)
+    s.open(3, 1)
+    s.add(seek(3, 0, 6, 0), pointer=6)
+    s.add(open_handle(3, 4), 16, pointer=0)
+    s.add(place(3, 0), 1)
+
+
+# The limits in set
+
+def mode_and_pointer(s, mode, pointer):
+    s.open(1, mode)
+    s.add(seek(1, 0, pointer, 0), pointer=pointer)
+
+
+def refused_sets(s, requests, refusal):
+    for request in requests:
+        s.set(1, request, refusal, pointer=7)
+
+
+def granted_sets(s, requests):
+    for request in requests:
+        s.set(1, request, pointer=0)
+
+
+def bytewise(n, entries):
+    """An etype of n bytes in a row, and a filetype of this many entries in a row."""
+    extent = max(n, 1)
+    return Request(0, extent, max(entries, 1), (1,) * n, tuple(range(n)), (1,) * entries, tuple(range(entries)))
+
+
+def set_widths(s):
+    s.section = "set: widths"
+    mode_and_pointer(s, 3, 7)
+    bad = [0, 3, 5, 7, 9, 2**32 + 4, ALL_ONES]
+    refused_sets(s, [Shape((w,), (0,), 8, (0,), 8) for w in bad], 6)
+    word = words((0,), 4).request()
+    refused_sets(s, [replace(word, filetype_widths=(w,)) for w in (3, 9)], 6)
+    refused_sets(s, [replace(word, etype_widths=(3,))], 6)
+    refused_sets(s, [replace(word, filetype_widths=(w,)) for w in (1, 2, 8)], 8)
+    refused_sets(s, [Shape((1, 2, 3), (0, 1, 3), 6, (0, 6), 12)], 6)
+    granted_sets(s, [Shape((w,), (0,), w, (0,), w) for w in (1, 2, 4, 8)])
+    granted_sets(s, [Shape((1, 2, 4, 8), (0, 1, 3, 7), 15, (0, 15), 30)])
+
+
+def set_counts(s):
+    s.section = "set: entry counts"
+    mode_and_pointer(s, 3, 7)
+    refused = [(0, 1), (0, 0), (9, 9), (1, 0), (8, 0), (1, 65), (3, 193), (4, 257)]
+    refused_sets(s, [bytewise(n, entries) for n, entries in refused], 4)
+    refused_sets(s, [bytewise(5, 256)], 8)
+    pairs = bytewise(2, 4)
+    refused_sets(s, [replace(pairs, etype_widths=(1,)), replace(pairs, etype_displacements=(0,)),
+                     replace(pairs, etype_widths=(1, 1, 1)), replace(pairs, filetype_widths=(1,) * 3),
+                     replace(pairs, filetype_displacements=(0, 1, 2)), replace(pairs, filetype_displacements=(0, 1, 2, 3, 4)),
+                     replace(pairs, etype_displacements=()), replace(pairs, filetype_widths=())], 4)
+    granted = [(1, 1), (8, 8), (1, 64), (3, 192), (4, 256), (5, 255), (8, 256)]
+    granted_sets(s, [bytewise(n, entries) for n, entries in granted])
+
+
+def set_entry_displacements(s):
+    s.section = "set: entry displacements"
+    mode_and_pointer(s, 3, 7)
+    bad = [-1, -4, MEGA - 3, MEGA, LARGEST, LARGEST - 3, LARGEST - 4, SMALLEST]
+    refused_sets(s, [Shape((4,), (d,), 4, (0,), 4) for d in bad], 6)
+    refused_sets(s, [replace(words((0,), 4).request(), filetype_displacements=(d,)) for d in (-1, MEGA - 3, LARGEST, SMALLEST)], 6)
+    refused_sets(s, [Shape((w,), (MEGA - w + 1,), 8, (0,), 8) for w in (1, 2, 8)], 6)
+    refused_sets(s, [Shape((w,), (0,), 1, (MEGA - w + 1,), 8) for w in (1, 2, 8)], 6)
+    granted_sets(s, [Shape((w,), (MEGA - w,), w, (0,), w) for w in (1, 2, 4, 8)])
+    granted_sets(s, [Shape((w,), (0,), w, (MEGA - w,), w) for w in (1, 2, 4, 8)])
+    granted_sets(s, [Shape((4,), (MEGA - 12,), 4, (0, 8), 12)])
+
+
+def set_extents(s):
+    s.section = "set: extents"
+    mode_and_pointer(s, 3, 7)
+    bad = [0, -1, MEGA + 1, LARGEST, SMALLEST]
+    refused_sets(s, [replace(BYTES, etype_extent=e) for e in bad], 5)
+    refused_sets(s, [replace(BYTES, filetype_extent=f) for f in bad], 5)
+    granted_sets(s, [BYTES, replace(BYTES, etype_extent=MEGA), replace(BYTES, filetype_extent=MEGA),
+                     replace(BYTES, etype_extent=MEGA, filetype_extent=MEGA)])
+
+
+def set_view_displacements(s):
+    s.section = "set: view displacements"
+    mode_and_pointer(s, 3, 7)
+    refused_sets(s, [words((0,), 4, d) for d in (-1, 2**40 + 1, LARGEST, SMALLEST)], 3)
+    granted_sets(s, [words((0,), 4, d) for d in (0, 2**40)])
+    s.add(place(1, 2**32 - 1), a=2**40 + (2**32 - 1) * 4)
+
+
+def set_representations(s):
+    s.section = "set: representations"
+    mode_and_pointer(s, 3, 7)
+    word = words((0,), 4).request()
+    bad = [b"", b"nativ", b"native\0", b"Native", b"nativE", b"external32"]
+    refused_sets(s, [replace(word, representation=r) for r in bad], 2)
+    granted_sets(s, [word])
+
+
+def set_order(s):
+    s.section = "set: ordered"
+    for mode in (3, 1):
+        mode_and_pointer(s, mode, 7)
+        refused_sets(s, [Shape((4, 4), (4, 0), 8, (0,), 8), Shape((4, 4), (0, 8), 4, (0, 4), 16), words((4, 0), 8),
+                         words((0, 8, 7), 12)], 7)
+    granted_sets(s, [Shape((4, 2), (3, 3), 4, (0, 0), 4), words((4, 4, 8), 12)])
+    s.add(read_at(1, 0, 0, 3, 12), count=3)
+
+
+def set_built(s):
+    s.section = "set: built of the etype"
+    mode_and_pointer(s, 1, 7)
+    good = Shape((4, 2), (0, 4), 6, (0, 6), 12).request()
+    refused_sets(s, [replace(good, filetype_displacements=d) for d in [(0, 4, 6, 11), (0, 5, 6, 10), (0, 4, 6, 9)]], 8)
+    refused_sets(s, [replace(good, filetype_widths=w) for w in [(4, 2, 2, 4), (2, 2, 4, 2), (4, 2, 4, 1)]], 8)
+    refused_sets(s, [replace(good, filetype_widths=(4, 2, 4), filetype_displacements=(0, 4, 6))], 8)
+    refused_sets(s, [replace(words((0,), 4).request(), etype_displacements=(4,))], 8)
+    refused_sets(s, [Request(0, 4, 16, (4, 4), (0, 8), (4,) * 4, (0, 4, 8, 12))], 8)
+    refused_sets(s, [Request(0, 4, 4, (4,), (4,), (4, 4), (3, 4))], 8)
+    granted_sets(s, [good, replace(good, filetype_displacements=(0, 4, 4, 8), filetype_extent=10), Shape((4,), (3,), 4, (0, 8), 12)])
+
+
+def set_holes(s):
+    s.section = "set: holes"
+    mode_and_pointer(s, 1, 7)
+    refused_sets(s, [words((p,), 12) for p in (1, 3, 5)], 9)
+    refused_sets(s, [words((0, p), 12) for p in (5, 7)] + [words((0, 4), f) for f in (9, 11, 13)], 9)
+    refused_sets(s, [Shape((8,), (0,), 6, (0, 8), 14), Shape((4,), (3,), 8, (1,), 8), words((0, 2, 7), 12)], 9)
+    granted_sets(s, [words((0, 4), f) for f in (1, 7, 8, 12)])
+    granted_sets(s, [Shape((4,), (3,), 8, (0,), 8), words((4,), 4), words((8,), 12), words((0, 1, 3), 7), words((0, 8), 16),
+                     Shape((8,), (0,), 6, (0, 6, 18), 30)])
+
+
+def set_overlaps(s):
+    s.section = "set: overlap"
+    bad = [words((0, 3), 7), words((4, 4), 8), words((0, 4), 7), words((4, 8), 7), words((0,), 3), words((4,), 1),
+           Shape((4, 4), (0, 3), 8, (0,), 8), Shape((4, 1), (0, 4), 4, (0, 4), 12), Shape((8,), (0,), 4, (0, 4), 12)]
+    good = [words((4,), 4), words((4, 8), 8), words((0, 4), 8), Shape((4, 1), (2, 6), 5, (0, 5), 10),
+            Shape((2, 2), (0, 2), 2, (0, 4), 8), Shape((1,), (7,), 9, (0,), 1)]
+    mode_and_pointer(s, 2, 7)
+    refused_sets(s, bad[:4], 10)
+    mode_and_pointer(s, 3, 7)
+    refused_sets(s, bad, 10)
+    granted_sets(s, good)
+    mode_and_pointer(s, 1, 7)
+    granted_sets(s, bad)
+
+
+def set_limits(s):
+    s.add(new_file(0, 100, 100, 4))
+    for part in (set_widths, set_counts, set_entry_displacements, set_extents, set_view_displacements, set_representations,
+                 set_order, set_built, set_holes, set_overlaps):
+        part(s)
+
+
+def set_pairs(s):
+    """Two faults at once: the smaller number is given."""
+    s.section = "set: order of checks"
+    mode_and_pointer(s, 3, 7)
+    word = words((0,), 4).request()
+    unordered = Request(0, 4, 8, (4, 2), (4, 0), (4, 2), (4, 0))
+    s.set(1, replace(word, representation=b"x", displacement=-1), 2, pointer=7)
+    s.set(1, replace(word, displacement=-1, etype_widths=()), 3, pointer=7)
+    s.set(1, replace(word, filetype_widths=(), filetype_displacements=(), etype_extent=0), 4, pointer=7)
+    s.set(1, replace(word, etype_widths=(4, 4), filetype_extent=0), 4, pointer=7)
+    s.set(1, replace(word, filetype_extent=0, etype_widths=(3,)), 5, pointer=7)
+    s.set(1, replace(word, etype_extent=0, filetype_displacements=(-1,)), 5, pointer=7)
+    s.set(1, replace(unordered, filetype_widths=(4, 3)), 6, pointer=7)
+    s.set(1, replace(unordered, filetype_displacements=(0, MEGA)), 6, pointer=7)
+    s.set(1, replace(unordered, filetype_widths=(4, 4)), 7, pointer=7)
+    s.set(1, Request(0, 4, 8, (4,), (0,), (4, 2), (4, 0)), 7, pointer=7)
+    s.set(1, Request(0, 4, 12, (4,), (0,), (4, 2), (2, 6)), 8, pointer=7)
+    s.set(1, Request(0, 4, 4, (4,), (0,), (4, 2), (0, 2)), 8, pointer=7)
+    s.set(1, words((0, 2), 12), 9, pointer=7)
+    s.set(1, words((2,), 1), 9, pointer=7)
+    s.set(1, words((4, 0), 4), 7, pointer=7)
+    everything = Request(-1, 0, 0, (3,), (-1, 0), (), (5, 2), b"")
+    s.set(1, everything, 2, pointer=7)
+    s.add(forged(1, 4, 7, words((0,), 4)))
+    s.set(1, everything, 1, pointer=7)
+    s.set(1, replace(word, representation=b"nativ"), 1, pointer=7)
+
+
+def set_does_not_look_at_the_file(s):
+    s.section = "calls that do not look at the file"
+    s.add(file_record(0, 101))
+    s.add(file_record(1, ALL_ONES))
+    s.open(1, 3)
+    s.set(1, FIRST)
+    s.add(place(1, 2), a=128)
+    s.add(give_back(1, (1, 1, 1, 1)), a=100, b=1, c=4, d=1, e=12)
+
+
+# Check 1 by forged handles
+
+def every_call(s, slot, file, refusal=0, read=None, count=1):
+    """Each call that tests the handle, the set last. `read` is the reads' refusal."""
+    read = refusal if read is None else read
+    s.add(give_back(slot, (9, 8, 256, 257), 11), refusal)
+    s.add(place(slot, 1), refusal)
+    s.add(end(slot, file), refusal)
+    s.add(seek(slot, file, 0, 1), refusal)
+    s.add(read_at(slot, file, 0, count, 64), read)
+    s.add(read_here(slot, file, count, 64), read)
+    s.set(slot, words((4,), 12), refusal)
+
+
+def forged_granted(s):
+    s.add(new_file(0, 200, 180, 6))
+    rows = [
+        ("smallest numbers", 1, 0, BYTES),
+        ("largest pointer and view displacement", 3, 2**32, replace(BYTES, displacement=2**40)),
+        ("8 entries, 32 instances", 3, 1, Shape((1,) * 8, tuple(range(8)), 8, tuple(range(0, 256, 8)), 256)),
+        ("4 entries, 64 instances, mode 2", 2, 1, Shape((1,) * 4, tuple(range(4)), 4, tuple(range(0, 256, 4)), 256)),
+        ("1 entry, 64 instances, overlap, mode 1", 1, 1, Shape((8,), (0,), 8, tuple(range(64)), 1)),
+        ("largest etype displacement, extents", 3, 1, Shape((1, 2), (0, MEGA - 2), MEGA, (0,), MEGA)),
+        ("largest origin", 3, 1, Shape((8,), (0,), 8, (0, MEGA - 8), MEGA)),
+    ]
+    for name, mode, pointer, shape in rows:
+        s.section = f"forged, granted: {name}"
+        s.add(forged(0, mode, pointer, shape), pointer=pointer)
+        every_call(s, 0, 0, read=11 if mode == 2 else 0, count=0 if pointer == 2**32 else 1)
+
+
+def forged_refused(s):
+    for name, forgery in forgeries_at_the_limits():
+        s.section = f"forged, refused: {name}"
+        s.add(forgery)
+        every_call(s, 0, 0, 1)
+    for name, forgery in other_forgeries():
+        s.section = f"forged, refused: {name}"
+        s.add(forgery)
+        s.add(place(0, 0), 1)
+
+
+def damaged(name, mode=3, pointer=3, shape=FIRST, **counts):
+    return name, forged(0, mode, pointer, shape, **counts)
+
+
+EIGHT, FIVE, FOUR = (Shape((1,) * n, tuple(range(n)), 1, (0,), n) for n in (8, 5, 4))
+FAR_APART = tuple(range(0, 512, 8))  # 64 origins
+
+
+def forgeries_at_the_limits():
+    """Handles in slot 0 that break one limit each by as little as can be. Mode 0 has its rows at open."""
+    yield damaged("mode 4", mode=4)
+    yield damaged("pointer 2^32 + 1", pointer=2**32 + 1)
+    yield damaged("view displacement 2^40 + 1", shape=replace(FIRST, displacement=2**40 + 1))
+    yield from (damaged(f"{n} entries", shape=EIGHT, entries=n) for n in (0, 9))
+    yield from (damaged(f"{k} instances", shape=replace(BYTES, origins=FAR_APART, filetype_extent=512), instances=k) for k in (0, 65))
+    yield damaged("264 entries", shape=replace(EIGHT, origins=FAR_APART, filetype_extent=512), instances=33)
+    yield from (damaged(f"width {w}", shape=Shape((w,), (0,), 8, (0,), 16)) for w in (0, 9))
+    yield damaged("etype displacement", shape=Shape((4,), (MEGA - 3,), 4, (0,), 4))
+    yield damaged("origin", shape=Shape((4,), (4,), 1, (MEGA - 7,), 4))
+    yield from (damaged(f"etype extent {e}", shape=replace(BYTES, etype_extent=e)) for e in (0, MEGA + 1))
+    yield from (damaged(f"filetype extent {f}", shape=replace(BYTES, filetype_extent=f)) for f in (0, MEGA + 1))
+    yield damaged("overlap with the next tile", mode=3, shape=words((0, 4), 4))
+
+
+def other_forgeries():
+    yield damaged("mode 2^64 - 1", mode=ALL_ONES)
+    yield damaged("pointer 2^64 - 1", pointer=ALL_ONES)
+    yield damaged("view displacement 2^64 - 1", shape=replace(FIRST, displacement=ALL_ONES))
+    yield damaged("2^64 - 1 entries", shape=EIGHT, entries=ALL_ONES)
+    yield damaged("2^64 - 1 instances", shape=BYTES, instances=ALL_ONES)
+    yield damaged("260 entries", shape=replace(FIVE, origins=FAR_APART, filetype_extent=512), instances=52)
+    yield damaged("8 times 2^61 entries", shape=EIGHT, instances=2**61)
+    yield damaged("4 times 2^62 + 1 entries", shape=FOUR, instances=2**62 + 1)
+    yield damaged("width 2^64 - 1", shape=Shape((ALL_ONES,), (0,), 8, (0,), 16))
+    yield damaged("width 3 in the last place", shape=replace(EIGHT, widths=(1,) * 7 + (3,), filetype_extent=16))
+    yield from (damaged(f"etype displacement {d}", shape=Shape((4,), (d,), 4, (0,), 4)) for d in (2**63, 2**64 - 4))
+    yield from (damaged(f"origin {p}", shape=Shape((4,), (4,), 1, (p,), 4)) for p in (2**63, 2**64 - 4))
+    yield damaged("etype extent 2^64 - 1", shape=replace(BYTES, etype_extent=ALL_ONES))
+    yield damaged("filetype extent 2^64 - 1", shape=replace(BYTES, filetype_extent=ALL_ONES))
+    yield from (damaged(f"width {w}", shape=Shape((w,), (0,), 8, (0,), 16)) for w in (3, 2**32 + 4))
+    yield damaged("filetype not ordered", mode=1, shape=Shape((4, 4), (0, 8), 4, (0, 4), 16))
+    yield damaged("etype not ordered", mode=1, shape=Shape((4, 4), (4, 0), 8, (0,), 8))
+    yield damaged("first hole", mode=1, shape=words((2,), 12))
+    yield damaged("last hole", mode=1, shape=words((0,), 6))
+    yield damaged("inner hole", mode=1, shape=words((0, 6), 12))
+    yield damaged("overlap in a tile", mode=2, shape=words((0, 2), 6))
+
+
+def garbage(s):
+    """What unused places hold plays no part; a set clears them."""
+    s.add(new_file(0, 200, 180, 8))
+    for fill, mode, shape in [(1, 3, FIRST), (2**63, 1, words((0, 8), 4)), (ALL_ONES, 3, LOOSE)]:
+        s.section = f"unused places hold {fill}"
+        s.add(forged(2, mode, 1, shape, fill=fill), pointer=1)
+        every_call(s, 2, 0)
+    s.section = "unused places and overlap"
+    s.add(forged(2, 3, 0, words((0, 4), 8), fill=2))
+    s.add(place(2, 3), a=12)
+    s.set(2, words((0, 4), 7), 10)
+    s.add(give_back(2, (1, 1, 2, 2)), a=0, b=1, c=4, d=2, e=8)
+
+
+def files_that_break_limits(s):
+    """Length 2^40 + 1 cannot be had: the script's files have at most 65,536 bytes."""
+    s.open(1, 3)
+    for length, size in [(0, 1), (20, 21)]:
+        s.section = f"size {size}, length {length}"
+        s.add(new_file(1, length, size, 0))
+        s.add(end(1, 1), 1)
+        for whence in (0, 1, 2, 3):
+            s.add(seek(1, 1, 0, whence), 1)
+        s.add(read_at(1, 1, 0, 0, 0), 1)
+        s.add(read_here(1, 1, 0, 0), 1)
+    for size in (65537, 2**40, 2**40 + 1, ALL_ONES):
+        s.section = f"size {size}, length 65536"
+        s.add(new_file(1, 65536, size, 0))
+        s.add(end(1, 1), 1)
+    for length in (0, 20, 65536):
+        s.section = f"size and length {length}"
+        s.add(new_file(1, length, length, 0))
+        s.add(end(1, 1), a=length)
+        s.add(seek(1, 1, 0, 2), pointer=length)
+        s.add(read_here(1, 1, 1, 1), count=0)
+        s.add(read_at(1, 1, max(length - 2, 0), 4, 4), count=min(length, 2))
+
+
+# Place, end and seek
+
+def place_offsets(s):
+    s.section = "place: offsets"
+    s.open(0, 1)
+    s.set(0, Shape((4, 1), (3, 9), 5, (5, 20, 35), 55, 2**40))
+    for offset in (-1, 2**32, 2**32 + 1, LARGEST, SMALLEST):
+        s.add(place(0, offset), 12, a=0)
+    for offset in (0, 1, 2, 3, 4, 5, 6, 2**31, 2**32 - 2, 2**32 - 1):
+        s.add(place(0, offset), a=2**40 + offset // 3 * 55 + (5, 20, 35)[offset % 3])
+    s.set(0, Shape((1,), (0,), 1, (MEGA - 1,), MEGA, 2**40))
+    s.add(place(0, 2**32 - 1), a=2**40 + 2**52 - 1)
+
+
+def ends_of_file(s):
+    s.section = "end of file"
+    s.add(new_file(0, 100, 0, 0))
+    s.open(0, 1)
+    s.ends(0, 0, [(0, 0), (1, 1), (100, 100)])
+    s.set(0, Shape((4,), (3,), 8, (0,), 8))  # begins by the origin, not by the first data byte
+    s.ends(0, 0, [(1, 1), (8, 1), (9, 2)])
+    s.add(read_at(0, 0, 0, 2, 8), count=1)
+    s.set(0, Shape((1,), (0,), 1, tuple(range(64)), 1))
+    s.ends(0, 0, [(2, 65), (100, 64 * 99 + 1)])
+    s.set(0, words((0,), 4, 101))
+    s.ends(0, 0, [(100, 0)])
+
+
+def seeks(s):
+    s.section = "seek"
+    s.add(new_file(0, 60, 41, 0))
+    s.open(0, 2)
+    s.set(0, words((4,), 8, 5))  # places 9, 17, 25, 33: end 4
+    s.add(end(0, 0), a=4)
+    refused = {0: (-1, 2**32 + 1), 1: (-8, 2**32 - 6), 2: (-5, 2**32 - 3)}
+    granted = {0: (0, 2**32, 7), 1: (-7, 2**32, -2**32, 7), 2: (-4, 2**32 - 4, 0)}
+    s.add(seek(0, 0, 7, 0), pointer=7)
+    for whence, offsets in refused.items():
+        for offset in offsets + (LARGEST, SMALLEST):
+            s.add(seek(0, 0, offset, whence), 12, pointer=7)
+    for whence in (3, 4, 2**32, ALL_ONES):
+        s.add(seek(0, 0, 0, whence), 15, pointer=7)
+        s.add(seek(0, 0, SMALLEST, whence), 15, pointer=7)
+    for whence, offsets in granted.items():
+        for offset in offsets:
+            s.add(seek(0, 0, offset, whence))
+    s.add(seek(0, 0, 0, 1), pointer=4)
+    s.add(seek(0, 0, 2**32, 0), pointer=2**32)
+    s.add(seek(0, 0, 1, 1), 12, pointer=2**32)
+    s.add(seek(0, 0, LARGEST, 1), 12, pointer=2**32)
+    s.add(seek(0, 0, SMALLEST, 1), 12, pointer=2**32)
+
+
+# Reads
+
+def reads_at_an_offset(s):
+    s.section = "read at an offset"
+    s.add(new_file(0, 90, 70, 11))
+    s.open(0, 1)
+    s.set(0, words((0, 8), 16, 3))  # places 3, 11, 19, 27, 35, 43, 51, 59, 67
+    s.add(seek(0, 0, 2, 0), pointer=2)
+    for offset in (-1, SMALLEST, LARGEST, 2**32 + 1):
+        s.add(read_at(0, 0, offset, 0, 8), 12, pointer=2)
+    for offset, count in [(0, ALL_ONES), (1, ALL_ONES), (2**32, ALL_ONES), (-1, 1), (0, 2**32 + 1), (1, 2**32), (2**32 - 1, 2), (2**32, 1)]:
+        s.add(read_at(0, 0, offset, count, 4096), 12, count=0, pointer=2)
+    for offset, count in [(0, 2**32), (2**32 - 1025, 1025), (0, 1025), (0, 2**30)]:
+        s.add(read_at(0, 0, offset, count, 4096), 13, count=0, pointer=2)
+    for offset, count, length, moved in [(0, 0, 0, 0), (2**32, 0, 0, 0), (2**32 - 1, 1, 4, 0), (2**32 - 1024, 1024, 4096, 0),
+                                         (0, 1, 4, 1), (0, 9, 36, 8), (7, 1, 5, 1), (8, 1, 4, 0), (1, 3, 20, 3), (0, 1024, 4096, 8)]:
+        s.add(read_at(0, 0, offset, count, length), count=moved, pointer=2)
+    for count in (1, 2, 9):
+        s.add(read_at(0, 0, 0, count, 4 * count - 1), 13, pointer=2)
+    s.add(read_at(0, 0, 100, 1, 3), 13, pointer=2)
+
+
+def read_sizes(s):
+    """A word in part below the size, the size below the length, the data in packed order."""
+    s.section = "read: sizes"
+    s.add(new_file(0, 90, 90, 12))
+    s.open(0, 3)
+    s.set(0, Shape((2, 1, 4), (1, 4, 6), 12, (0, 12), 36, 2))  # bytes 3, 4, 6, 8 to 11, and 12 further on
+    for size, moved in [(3, 0), (7, 0), (11, 0), (12, 1), (23, 1), (24, 2), (47, 2), (48, 3), (59, 3), (60, 4)]:
+        s.add(file_record(0, size))
+        s.add(read_at(0, 0, 0, 4, 30, 5), count=moved)
+    s.open(0, 1)
+    s.set(0, Shape((4, 4), (0, 2), 6, (0, 3), 7))  # overlapping data
+    s.add(read_at(0, 0, 0, 5, 40), count=5)
+    s.set(0, Shape((8,), (0,), 2, (0, 2), 4))  # E below S
+    s.add(file_record(0, 13))
+    s.add(read_at(0, 0, 0, 5, 40), count=3)
+    s.set(0, Shape((1,), (0,), 8, (0, 8), 16))  # E above S
+    s.add(read_at(0, 0, 0, 5, 5), count=2)
+    s.set(0, words((0, 8), 4))  # a later word fits, the next one does not
+    s.add(file_record(0, 11))
+    s.add(read_at(0, 0, 0, 3, 12), count=1)
+
+
+def reads_at_the_pointer(s):
+    s.section = "read at the pointer"
+    s.add(new_file(0, 90, 70, 13))
+    s.open(0, 3)
+    s.set(0, words((0, 8), 16, 3))
+    s.add(read_here(0, 0, 3, 12), count=3, pointer=3)
+    s.add(read_here(0, 0, 3, 11), 13, count=0, pointer=3)
+    s.add(read_here(0, 0, 0, 0), count=0, pointer=3)
+    s.add(read_at(0, 0, 0, 1, 4), count=1, pointer=3)
+    s.add(read_here(0, 0, 3, 14), count=3, pointer=6)
+    s.add(read_here(0, 0, 3, 14), count=2, pointer=8)
+    s.add(read_here(0, 0, 3, 14), count=0, pointer=8)
+    s.add(seek(0, 0, -1, 2), pointer=8)
+    for count in (2**32 - 7, ALL_ONES):
+        s.add(read_here(0, 0, count, 14), 12, pointer=8)
+    s.add(read_here(0, 0, 2**32 - 8, 4096), 13, pointer=8)
+    s.add(seek(0, 0, 2**32 - 1, 0))
+    s.add(read_here(0, 0, 1, 4), count=0, pointer=2**32 - 1)
+    s.add(read_here(0, 0, 2, 8), 12, pointer=2**32 - 1)
+    s.add(seek(0, 0, 2**32, 0))
+    s.add(read_here(0, 0, 0, 4), count=0, pointer=2**32)
+    s.add(read_here(0, 0, 1, 4), 12, pointer=2**32)
+    s.add(read_here(0, 0, ALL_ONES, 4), 12, pointer=2**32)
+
+
+def two_handles_on_one_file(s):
+    s.section = "two handles on one file"
+    s.add(new_file(1, 40, 40, 14))
+    s.open(0, 1)
+    s.open(1, 3)
+    s.set(0, words((0,), 8))
+    s.set(1, words((4,), 8))
+    for slot, moved in [(0, 2), (1, 2), (0, 4), (1, 4), (0, 5), (1, 5)]:
+        s.add(read_here(slot, 1, 2, 8), pointer=moved)
+    # later: writes by one handle, read by the other
+
+
+# Giving back
+
+def giving_back(s):
+    shapes = [("P1", 3, FIRST), ("P8", 2, LOOSE), ("overlap", 1, Shape((4, 4), (0, 2), 6, (0, 3), 7)),
+              ("256 entries", 3, Shape((1,) * 4, tuple(range(4)), 4, tuple(range(0, 256, 4)), 256))]
+    for name, mode, shape in shapes:
+        s.section = f"giving back: {name}"
+        s.add(forged(3, mode, 9, shape, fill=77))
+        n, entries = len(shape.widths), len(shape.widths) * len(shape.origins)
+        exact = (n, n, entries, entries)
+        for short in range(4):
+            s.add(give_back(3, [length - (i == short) for i, length in enumerate(exact)], 5), 13, a=0, b=0, c=0, d=0, e=0, pointer=9)
+        answer = dict(a=shape.displacement, b=n, c=shape.etype_extent, d=entries, e=shape.filetype_extent, pointer=9)
+        s.add(give_back(3, exact, 5), **answer)
+        s.add(give_back(3, [length + 1 for length in exact], 2**31 + 5), **answer)
+        s.add(give_back(3, (300, 301, 300, ALL_ONES), ALL_ONES), **answer)
+    s.section = "giving back: after a set"
+    s.open(3, 3)
+    s.add(give_back(3, (1, 1, 1, 1)), a=0, b=1, c=1, d=1, e=1)
+    s.set(3, LOOSE)
+    s.add(give_back(3, (2, 2, 4, 4)), a=0, b=2, c=8, d=4, e=24)
+    s.set(3, words((2,), 12), 9)
+    s.add(give_back(3, (3, 3, 5, 5), 6), a=0, b=2, c=8, d=4, e=24)
+    s.add(give_back(3, (0, 0, 0, 0)), 13)
+
+
+# Orders of checks, two faults at once
+
+def pairs(s):
+    s.section = "orders of checks"
+    s.add(new_file(0, 20, 20, 15))
+    s.add(new_file(1, 20, 21, 15))
+    s.open(0, 2)
+    s.open(1, 3)
+    s.add(forged(2, 4, 0, words((0,), 4)))
+    s.add(place(2, -1), 1)
+    s.add(give_back(2, (0, 0, 0, 0)), 1)
+    s.add(seek(2, 0, 0, 3), 1)
+    s.add(seek(1, 1, 0, 3), 1)
+    s.add(seek(1, 1, -1, 0), 1)
+    s.add(seek(1, 0, -1, 3), 15)
+    s.add(read_at(0, 1, 0, 1, 1), 1)  # 1 and 11
+    s.add(read_here(0, 1, 1, 1), 1)
+    s.add(read_at(0, 0, -1, 1, 1), 11)  # 11 and 12
+    s.add(read_here(0, 0, ALL_ONES, 1), 11)
+    s.add(read_at(0, 0, 0, 1, 0), 11)  # 11 and 13
+    s.add(read_at(1, 0, -1, 1, 0), 12)  # 12 and 13
+    s.add(read_here(1, 0, 2**32 + 1, 0), 12)
+    s.add(read_at(1, 1, -1, 1, 0), 1)
+    s.add(read_at(2, 0, -1, 1, 0), 1)
+    s.add(read_here(2, 0, 1, 0), 1)
+    s.add(read_at(0, 0, 0, 0, 0), 11)
+    s.add(read_here(0, 0, 0, 0), 11)
+    # later: 13 and 14 of a write, 1 and 11 of the reverse lookup
+
+
+# The script's own rules
+
+def bodies(s):
+    s.section = "bodies, slots and lengths"
+    s.add(new_file(2, 70000, 70000, 256 + 9), size0=70000)
+    s.add(new_file(ALL_ONES, 300, 299, 3), size1=299)
+    s.add(record(33, 0, 7, 8, 9), size0=7)
+    s.add(record(33), size0=0)
+    s.add(field(33, b"\0" * 8 + b"\x05"), size0=5)
+    s.add(open_handle(5, 1))
+    s.add(record(38, 1, 9), a=9)
+    s.add(record(38, ALL_ONES - 2, 9, 4, 4), a=9)
+    s.add(record(38, 1), a=0)
+    s.add(field(38, b"\x01"), a=0)
+    s.add(read_at(1, 5, 0, 4096, 5000), count=299)
+    s.add(read_at(1, 1, 0, 4097, 5000), 13)
+    s.add(field(41, b""), 11)
+    s.add(record(36, 1), 2)
+    s.add(record(36, 1, 0, 1, 1, 1, 1, 1, 1, 1, 0, 1, 0, tail=b"native"))
+    s.add(record(36, 1, 0, 1, 1, ALL_ONES, 1, 1, 1), 2)
+    lists = [1] * 300 + [0] + [1] + [0]
+    s.add(record(36, 1, 0, 1, 1, 301, 1, 1, 1, *lists, tail=b"native"), 4)
+    s.add(field(37, b"\x01"), 13)
+    s.add(field(39, b""), a=5)
+    s.add(field(40, b"\x01"), pointer=0)
+    s.add(field(42, b"\x01"), count=0)
+    s.add(field(35, b"\x02" + b"\0" * 7 + b"\x02"), pointer=0)
+    s.add(read_at(2, 1, 0, 1, 1), 11)
+
+
+SECTIONS = (p1_to_p3, p4_and_p5, p6_and_p7, p8_and_p9, p10, p11_and_p12, six_errors, opens, set_limits, set_pairs,
+            set_does_not_look_at_the_file, files_that_break_limits, forged_granted, forged_refused, garbage, place_offsets,
+            ends_of_file, seeks, reads_at_an_offset, read_sizes, reads_at_the_pointer, two_handles_on_one_file, giving_back, pairs, bodies)
+CUT = record(38, 1, 0)[:-1]  # the last record lacks a byte
+
+
+def rows():
+    s = Script()
+    for section in SECTIONS:
+        section(s)
+    return s.rows
+
+
+def script():
+    return b"".join(row.record for row in rows()) + CUT
+
+
+def row_faults(row, line):
+    numbers = dict(zip(LINE, map(int, line.split())))
+    return [f"{name} is {numbers[name]}, expected {value}" for name, value in row.expected.items() if numbers[name] != value]
+
+
+def faults():
+    """Where the model's lines differ from what the rows state."""
+    found = []
+    for row, line in zip(rows(), run(script())):
+        for fault in row_faults(row, line):
+            found.append(f"{row.section}: {decode(row.record[0], row.record[3:])}: {fault}")
+    return found

@@ -1,0 +1,410 @@
+"""The generated scripts: `generate(seed)` gives one script of about 400 records, rich in boundary cases.
+
+The generator runs the model along, so that it can aim calls at the view, pointer and file that they will find.
+"""
+
+from dataclasses import replace
+from random import Random
+
+from model import OFFSETS, Body, Driver, Rules
+from scripts import (ALL_ONES, LARGEST, SMALLEST, Shape, end, field, file_record, forged, give_back, new_file, open_handle, place, read_at,
+                     read_here, record, seek, set_view)
+
+MEGA = 1_048_576
+RECORDS = (340, 460)
+DAMAGES = (2, 3, 4, 5, 6, 7, 8, 9, 9, 10, 10)  # the refusals that a damaged set aims at
+BAD_WIDTHS = (0, 3, 5, 6, 7, 9, 16, 2**32 + 1, ALL_ONES)
+BAD_EXTENTS = (0, -1, MEGA + 1, LARGEST, SMALLEST)
+BAD_REPRESENTATIONS = (b"", b"nativ", b"native\0", b"Native", b"nativE", b"external32", b"internal")
+
+
+class Shapes:
+    """Views that keep the rules, for reading only or for writing too."""
+
+    def __init__(self, rng):
+        self.rng = rng
+
+    def etype(self, writing):
+        n = self.rng.choice((1, 1, 1, 2, 2, 2, 3, 3, 4, 5, 8))
+        displacement, widths, displacements = self.rng.choice((0, 0, 0, 0, 1, 2, 3, 8)), [], []
+        for _ in range(n):
+            width = self.rng.choice((1, 2, 4, 8))
+            widths.append(width)
+            displacements.append(displacement)
+            step = width + self.rng.choice((0, 0, 0, 1, 2, 5))
+            displacement += step if writing else self.rng.choice((step, step, width - 1, 0))
+        return tuple(widths), tuple(displacements)
+
+    def etype_extent(self, widths, displacements):
+        reach = displacements[-1] + widths[-1]
+        size = sum(widths)
+        return max(1, self.rng.choice((size, size, reach, reach, reach + 1, reach + 3, reach - 1, size - 1, 1, 2, 4)))
+
+    def origins(self, least, extent, n):
+        """Origins at least this far apart, with holes of whole extents only."""
+        count = self.rng.choice((1, 1, 2, 2, 2, 3, 3, 4, 5, 7, 64))
+        origins = [extent * self.rng.choice((0, 0, 0, 0, 1, 1, 2, 5))]
+        while len(origins) < min(count, 256 // n):
+            below = self.rng.randrange(extent)  # nearer than the extent: no hole
+            steps = [extent, extent, 2 * extent, 3 * extent, below, least]
+            steps = [s for s in steps if s >= least and (s <= extent or s % extent == 0)]
+            origins.append(origins[-1] + (self.rng.choice(steps) if steps else -(-least // extent) * extent))
+        return tuple(origins)
+
+    def filetype_extent(self, least, last, extent):
+        """A filetype extent of at least this, with a last hole of whole extents or none; `last` is the last origin."""
+        whole = last + extent
+        extents = [whole, whole, whole + extent, whole + 2 * extent, self.rng.randint(1, whole), least, extent, 1]
+        extents = [f for f in extents if f >= least and (f <= whole or (f - whole) % extent == 0)]
+        return self.rng.choice(extents) if extents else whole + -(-(least - whole) // extent) * extent
+
+    def shape(self, writing):
+        widths, displacements = self.etype(writing)
+        extent = self.etype_extent(widths, displacements)
+        span = displacements[-1] + (widths[-1] if writing else 0) - displacements[0]
+        origins = self.origins(span, extent, len(widths))
+        least = max(1, origins[-1] - origins[0] + span if writing else 1)
+        displacement = self.rng.choice((0, 0, 0, 0, 1, 3, 20, 100, self.rng.randrange(200), 2**40))
+        return Shape(widths, displacements, extent, origins, self.filetype_extent(least, origins[-1], extent), displacement)
+
+
+class Damage:
+    """Sets that break one rule by little. A method for each refusal number; the answer may still be another one."""
+
+    def __init__(self, rng):
+        self.rng = rng
+
+    def damaged(self, request, number):
+        return getattr(self, f"refusal_{number}")(request)
+
+    def change(self, request, name, index, number):
+        """One element of a list of the request becomes this number."""
+        numbers = list(getattr(request, name))
+        if numbers:
+            numbers[index % len(numbers)] = number
+        return replace(request, **{name: tuple(numbers)})
+
+    def refusal_2(self, request):
+        return replace(request, representation=self.rng.choice(BAD_REPRESENTATIONS))
+
+    def refusal_3(self, request):
+        return replace(request, displacement=self.rng.choice((-1, 2**40 + 1, LARGEST, SMALLEST)))
+
+    def refusal_4(self, request):
+        kind = self.rng.choice(("etype", "filetype"))
+        names = [f"{kind}_widths", f"{kind}_displacements"]
+        one = self.rng.choice(names)
+        change = self.rng.choice(("drop", "add", "none", "many"))
+        if change == "drop":
+            return replace(request, **{one: getattr(request, one)[:-1]})
+        if change == "add":
+            return replace(request, **{one: getattr(request, one) + (1,)})
+        if change == "none":
+            return replace(request, **{name: () for name in names})
+        most = 9 if kind == "etype" else min(257, 64 * len(request.etype_widths) + 1)
+        return replace(request, **{name: (getattr(request, name) * most)[:most] for name in names})
+
+    def refusal_5(self, request):
+        return replace(request, **{self.rng.choice(("etype_extent", "filetype_extent")): self.rng.choice(BAD_EXTENTS)})
+
+    def refusal_6(self, request):
+        kind, index = self.rng.choice(("etype", "filetype")), self.rng.randrange(256)
+        if self.rng.random() < 0.5:
+            return self.change(request, f"{kind}_widths", index, self.rng.choice(BAD_WIDTHS))
+        widths = getattr(request, f"{kind}_widths") or (1,)
+        width = widths[index % len(widths)]
+        bad = (-1, MEGA - width + 1, MEGA, LARGEST, LARGEST - width + 1, SMALLEST)
+        return self.change(request, f"{kind}_displacements", index, self.rng.choice(bad))
+
+    def refusal_7(self, request):
+        name = self.rng.choice(("etype_displacements", "filetype_displacements", "filetype_displacements"))
+        numbers = getattr(request, name)
+        if len(numbers) < 2:
+            name, numbers = "filetype_displacements", request.filetype_displacements
+        index = self.rng.randrange(1, max(len(numbers), 2))
+        before = numbers[index - 1] if len(numbers) > 1 else 0
+        return self.change(request, name, index, max(0, before - 1))
+
+    def refusal_8(self, request):
+        index, kind = self.rng.randrange(256), self.rng.choice(("width", "shift", "drop", "etype"))
+        if kind == "width":
+            return self.change(request, "filetype_widths", index, self.rng.choice((1, 2, 4, 8)))
+        if kind == "shift":
+            numbers = request.filetype_displacements or (0,)
+            return self.change(request, "filetype_displacements", index, numbers[index % len(numbers)] + 1)
+        if kind == "drop":
+            return replace(request, filetype_widths=request.filetype_widths[:-1],
+                           filetype_displacements=request.filetype_displacements[:-1])
+        return replace(request, etype_displacements=tuple(d + 1 for d in request.etype_displacements))
+
+    def refusal_9(self, request):
+        if self.rng.random() < 0.4:
+            return replace(request, filetype_extent=request.filetype_extent + self.rng.choice((1, request.etype_extent - 1)))
+        n = max(len(request.etype_widths), 1)
+        groups = max(len(request.filetype_displacements) // n, 1)
+        first = n * self.rng.randrange(groups)  # this group and the later ones move
+        numbers = request.filetype_displacements
+        return replace(request, filetype_displacements=numbers[:first] + tuple(d + 1 for d in numbers[first:]))
+
+    def refusal_10(self, request):
+        if self.rng.random() < 0.6:
+            numbers, widths = request.filetype_displacements or (0,), request.filetype_widths or (1,)
+            span = numbers[-1] + widths[-1] - numbers[0]
+            return replace(request, filetype_extent=max(1, span - 1))
+        n = max(len(request.etype_widths), 1)
+        numbers = request.filetype_displacements
+        return replace(request, filetype_displacements=numbers[:n] + tuple(max(0, d - 1) for d in numbers[n:]))
+
+
+class Forgery:
+    """A forged handle's record; `damage` puts one fault into it, or nearly one."""
+
+    def __init__(self, rng, mode, pointer, shape):
+        self.rng, self.mode, self.pointer, self.shape, self.counts = rng, mode, pointer, shape, {}
+
+    def damage(self):
+        faults = (self.bad_mode, self.bad_pointer, self.bad_displacement, self.bad_count, self.bad_extent, self.bad_width,
+                  self.bad_entry, self.bad_origin, self.bad_tile)
+        self.rng.choice(faults)()
+
+    def change(self, **fields):
+        self.shape = replace(self.shape, **fields)
+
+    def one_changed(self, numbers, number):
+        index = self.rng.randrange(len(numbers))
+        return numbers[:index] + (number,) + numbers[index + 1:]
+
+    def bad_mode(self):
+        self.mode = self.rng.choice((0, 4, 2**32 + 1, ALL_ONES))
+
+    def bad_pointer(self):
+        self.pointer = self.rng.choice((OFFSETS + 1, 2**63, ALL_ONES))
+
+    def bad_displacement(self):
+        self.change(displacement=self.rng.choice((2**40 + 1, ALL_ONES)))
+
+    def bad_count(self):
+        self.counts = {self.rng.choice(("entries", "instances")): self.rng.choice((0, 9, 65, 2**62 + 1, ALL_ONES))}
+
+    def bad_extent(self):
+        self.change(**{self.rng.choice(("etype_extent", "filetype_extent")): self.rng.choice((0, MEGA + 1, ALL_ONES))})
+
+    def bad_width(self):
+        self.change(widths=self.one_changed(self.shape.widths, self.rng.choice(BAD_WIDTHS)))
+
+    def bad_entry(self):
+        number = self.rng.choice((0, 5, MEGA, 2**63, 2**64 - 4))
+        self.change(displacements=self.one_changed(self.shape.displacements, number))
+
+    def bad_origin(self):
+        number = self.rng.choice((0, 1, self.shape.origins[-1] + 1, MEGA, 2**64 - 8))
+        self.change(origins=self.one_changed(self.shape.origins, number))
+
+    def bad_tile(self):
+        self.change(filetype_extent=max(1, self.shape.filetype_extent + self.rng.choice((-1, 1))))
+
+
+class Generator:
+    def __init__(self, seed):
+        self.rng = Random(seed)
+        self.shapes, self.damage = Shapes(self.rng), Damage(self.rng)
+        self.driver = Driver(Rules())
+        self.records = []
+
+    def emit(self, record):
+        self.driver.step(0, record[0], Body(record[3:]))
+        self.records.append(record)
+
+    def chance(self, part):
+        return self.rng.random() < part
+
+    # Handles
+
+    def mode(self):
+        return self.rng.choice((1, 1, 1, 2, 3, 3))
+
+    def open(self, slot):
+        if self.chance(0.04):
+            self.unnamed_mode(slot)
+        if self.chance(0.12):
+            self.emit(open_handle(slot, self.rng.choice((4, 5, 7, 2**32 + 1, ALL_ONES))))
+        else:
+            self.emit(open_handle(slot, self.mode()))
+
+    def unnamed_mode(self, slot):
+        """An open that names no mode, with a read; the handle is not used further."""
+        self.emit(open_handle(slot, 0))
+        self.emit(read_at(slot, 0, 0, 2, 2))
+
+    def shape(self, mode):
+        return self.shapes.shape(writing=mode in (2, 3) or self.chance(0.3))
+
+    def set(self, slot):
+        """A sound set half of the time; else one with a fault, or with two."""
+        request = self.shape(self.driver.slots[slot].mode).request()
+        if self.chance(0.5):
+            request = self.damage.damaged(request, self.rng.choice(DAMAGES))
+            if self.chance(0.25):
+                request = self.damage.damaged(request, self.rng.choice(DAMAGES))
+        self.emit(set_view(slot, request))
+
+    def sound_set(self, slot):
+        self.emit(set_view(slot, self.shape(self.driver.slots[slot].mode).request()))
+
+    def pointer(self):
+        return self.rng.choice((0, 0, 1, 2, 3, self.rng.randrange(20), OFFSETS - 1, OFFSETS))
+
+    def fill(self):
+        return self.rng.choice((0, 1, 3, 2**40 + 1, 2**63, ALL_ONES, self.rng.getrandbits(64)))
+
+    def forge(self, slot):
+        mode = self.mode()
+        self.emit(forged(slot, mode, self.pointer(), self.shape(mode), fill=self.fill()))
+
+    def forge_damaged(self, slot):
+        mode = self.mode()
+        forgery = Forgery(self.rng, mode, self.pointer(), self.shape(mode))
+        forgery.damage()
+        self.emit(forged(slot, forgery.mode, forgery.pointer, forgery.shape, fill=self.fill(), **forgery.counts))
+
+    # Files
+
+    def interesting_size(self, view):
+        """A size at the begin or in the data of an etype, when such a byte is near enough."""
+        usable = 1 <= view.instances <= 64 and 1 <= view.entries <= 8 and view.displacement < 2**16
+        if not usable or self.chance(0.1):
+            return self.rng.choice((0, 1, self.rng.randrange(300)))
+        offset = self.rng.randrange(3 * view.instances + 6)
+        begin = self.driver.rules.place(view, offset)
+        entry = self.rng.randrange(view.entries)
+        first = begin + view.displacements[entry]
+        last = begin + view.displacements[view.entries - 1] + view.widths[view.entries - 1]
+        return self.rng.choice((begin, begin + 1, first, first + 1, first + view.widths[entry] // 2, last - 1, last, last + 1))
+
+    def file(self, slot, file):
+        size = self.interesting_size(self.driver.slots[slot].view) % 20_000
+        length = size + self.rng.choice((0, 0, 1, 3, 20, 100))
+        if self.chance(0.06):
+            length = max(0, size - 1)
+        self.emit(new_file(file, length, size, self.rng.randrange(256)))
+
+    def new_size(self, slot, file):
+        length = len(self.driver.files[file].data)
+        size = self.interesting_size(self.driver.slots[slot].view)
+        if self.chance(0.2):
+            size = self.rng.choice((length + 1, length, ALL_ONES, 2**40 + 1))
+        elif size > length:
+            size = self.rng.randint(0, length)
+        self.emit(file_record(file, size))
+
+    # Calls
+
+    def is_sound(self, slot):
+        return self.driver.rules.handle_allowed(self.driver.slots[slot])
+
+    def file_end(self, slot, file):
+        """The end of file where the handle is sound, else a small number."""
+        if self.is_sound(slot):
+            return self.driver.rules.end_of_file(self.driver.slots[slot].view, self.driver.files[file].size)
+        return self.rng.randrange(10)
+
+    def give_back(self, slot, _file):
+        view = self.driver.slots[slot].view
+        n, k = min(view.entries, 8), min(view.instances, 64)
+        lengths = [n, n, min(n * k, 299), min(n * k, 299)]
+        if self.chance(0.35):
+            index = self.rng.randrange(4)
+            lengths[index] = max(0, lengths[index] - 1)
+        else:
+            lengths = [length + self.rng.choice((0, 0, 0, 1, 7)) for length in lengths]
+        self.emit(give_back(slot, lengths, self.rng.getrandbits(33)))
+
+    def place(self, slot, _file):
+        near = self.rng.randrange(40)
+        offset = self.rng.choice((near, near, near, OFFSETS - 1, OFFSETS, -1, self.rng.randrange(OFFSETS), LARGEST, SMALLEST))
+        self.emit(place(slot, offset))
+
+    def end(self, slot, file):
+        self.emit(end(slot, file))
+
+    def seek(self, slot, file):
+        whence = self.rng.choice((0, 1, 2, 0, 1, 2, 0, 1, 2, self.rng.choice((3, 4, ALL_ONES))))
+        handle, stop = self.driver.slots[slot], self.file_end(slot, file)
+        base = (0, handle.pointer, stop)[whence] if whence < 3 else 0
+        near = max(0, stop - self.rng.randrange(5))
+        target = self.rng.choice((near, near, near, 0, 0, self.rng.randrange(12), -1, OFFSETS, OFFSETS - 1, OFFSETS + 1))
+        offset = self.rng.choice((LARGEST, SMALLEST)) if self.chance(0.06) else target - base
+        self.emit(seek(slot, file, offset if SMALLEST <= offset <= LARGEST else 0, whence))
+
+    def count(self):
+        return self.rng.choice((0, 1, 1, 2, 2, 3, 4, 5, 9, self.rng.randrange(20)))
+
+    def buffer(self, slot, count):
+        view = self.driver.slots[slot].view
+        size = sum(view.widths[: view.entries]) if self.is_sound(slot) else 4
+        exact = min(count * size, 4096)
+        return max(0, exact + self.rng.choice((0, 0, 0, 0, 1, 5, -1)))
+
+    def read_offset(self, slot, file):
+        stop = self.file_end(slot, file)
+        near = max(0, stop - self.rng.randrange(12))
+        small = self.rng.randrange(min(stop, 50) + 1)
+        limit = self.rng.choice((-1, SMALLEST, LARGEST, OFFSETS - 1, OFFSETS))
+        return self.rng.choice((0, 0, near, near, near, small, small, small, stop, limit))
+
+    def read_at(self, slot, file):
+        offset, count = self.read_offset(slot, file), self.count()
+        if self.chance(0.05):
+            count = self.rng.choice((OFFSETS - max(offset, 0), OFFSETS - max(offset, 0) + 1, ALL_ONES)) % 2**64
+        self.emit(read_at(slot, file, offset, count, self.buffer(slot, count), self.rng.randrange(256)))
+
+    def read_here(self, slot, file):
+        if self.chance(0.4):
+            self.emit(seek(slot, file, self.rng.randrange(4), 0))
+        count, pointer = self.count(), self.driver.slots[slot].pointer
+        if self.chance(0.08):
+            count = self.rng.choice((OFFSETS - pointer, OFFSETS - pointer + 1, ALL_ONES)) % 2**64
+        self.emit(read_here(slot, file, count, self.buffer(slot, count), self.rng.randrange(256)))
+
+    # Scripts
+
+    def new_handle(self, slot):
+        if self.chance(0.15):
+            self.forge_damaged(slot)
+        elif self.chance(0.25):
+            self.forge(slot)
+        else:
+            self.open(slot)
+            for _ in range(self.rng.choice((0, 1, 2, 3))):
+                self.set(slot)
+            if self.chance(0.7):
+                self.sound_set(slot)
+
+    def episode(self):
+        """A handle, a file and some calls."""
+        slot, file = self.rng.randrange(4), self.rng.randrange(2)
+        self.new_handle(slot)
+        self.file(slot, file)
+        calls = (self.give_back, self.place, self.end, self.seek, self.seek, self.read_at, self.read_at, self.read_at,
+                 self.read_here, self.read_here)
+        for _ in range(self.rng.randint(4, 12)):
+            if self.chance(0.2):
+                self.new_size(slot, file)
+            elif self.chance(0.08):
+                self.set(slot)
+            self.rng.choice(calls)(slot, file)
+
+    def tail(self):
+        """What stands after the last whole record."""
+        cut = record(38, 1, 2)
+        return self.rng.choice((b"", b"", cut[:1], cut[:2], cut[:3], cut[:-1], field(31, b""), field(43, b"\0" * 8), b"\x01\0\0", b"\xff"))
+
+    def script(self):
+        least = self.rng.randint(*RECORDS)
+        while len(self.records) < least:
+            self.episode()
+        return b"".join(self.records) + self.tail()
+
+
+def generate(seed):
+    return Generator(seed).script()

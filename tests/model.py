@@ -1,0 +1,484 @@
+"""The second program: document 01's rules in plain Python, and the lines that docs/conformance.md asks for.
+
+It is written from these two papers alone, without a look at the library, and is to be read against them:
+it is slow wherever that is plainer. `Rules` holds document 01, `Driver` the script, `run` makes the lines.
+"""
+
+from dataclasses import dataclass, replace
+from functools import lru_cache
+
+ETYPE_PLACES = 8
+ORIGIN_PLACES = 64
+WIDTHS = (1, 2, 4, 8)
+MOST_ENTRIES = 256
+LAST_BYTE = 1_048_576
+MOST_DISPLACEMENT = 2**40
+MOST_LENGTH = 2**40
+OFFSETS = 2**32  # offsets are 0 to OFFSETS - 1, pointers 0 to OFFSETS
+READING, WRITING = (1, 3), (2, 3)  # the modes that allow each
+
+
+@dataclass(frozen=True)
+class Type:
+    widths: tuple
+    displacements: tuple
+    extent: int
+
+    def entries(self):
+        return list(zip(self.widths, self.displacements))
+
+
+@dataclass(frozen=True)
+class View:
+    """A view as the handle's record holds it, unused places included."""
+
+    displacement: int
+    entries: int
+    widths: tuple
+    displacements: tuple
+    etype_extent: int
+    instances: int
+    origins: tuple
+    filetype_extent: int
+
+    def etype(self):
+        n = self.entries
+        return Type(self.widths[:n], self.displacements[:n], self.etype_extent)
+
+    def used_origins(self):
+        return self.origins[: self.instances]
+
+    def filetype(self):
+        etype, origins = self.etype(), self.used_origins()
+        shifted = tuple(p + d for p in origins for d in etype.displacements)
+        return Type(etype.widths * len(origins), shifted, self.filetype_extent)
+
+
+@dataclass(frozen=True)
+class Handle:
+    mode: int
+    pointer: int
+    view: View
+
+
+@dataclass(frozen=True)
+class File:
+    data: bytes
+    size: int
+
+
+@dataclass(frozen=True)
+class Answer:
+    handle: Handle
+    refusal: int = 0
+    count: int = 0
+    numbers: tuple = ()
+
+
+def padded(numbers, places):
+    return tuple(numbers) + (0,) * (places - len(numbers))
+
+
+def view_of(displacement, etype, filetype, origins):
+    """The record of an accepted view, with 0 in the unused places."""
+    return View(displacement, len(etype.widths), padded(etype.widths, ETYPE_PLACES), padded(etype.displacements, ETYPE_PLACES),
+                etype.extent, len(origins), padded(origins, ORIGIN_PLACES), filetype.extent)
+
+
+BYTE = Type((1,), (0,), 1)
+DEFAULT_VIEW = view_of(0, BYTE, BYTE, (0,))
+REFUSED_HANDLE = Handle(0, 0, DEFAULT_VIEW)
+
+
+class Rules:
+    """Document 01. A handle comes in and goes back as a value; lent lists and buffers are changed in place."""
+
+    # When a view is accepted
+
+    def counts_allowed(self, etype_entries, filetype_entries):
+        return (1 <= etype_entries <= ETYPE_PLACES
+                and 1 <= filetype_entries <= MOST_ENTRIES and filetype_entries <= 64 * etype_entries)
+
+    def entry_allowed(self, width, displacement):
+        return width in WIDTHS and displacement >= 0 and displacement + width <= LAST_BYTE
+
+    def ordered(self, numbers):
+        return all(a <= b for a, b in zip(numbers, numbers[1:]))
+
+    def origins(self, etype, filetype):
+        """The instances' origins, or None if the filetype is not built of the etype."""
+        n = len(etype.widths)
+        if len(filetype.widths) % n != 0:
+            return None
+        starts = range(0, len(filetype.widths), n)
+        found = tuple(filetype.displacements[g] - etype.displacements[0] for g in starts)
+        for g, origin in zip(starts, found):
+            shifted = tuple(origin + d for d in etype.displacements)
+            if origin < 0 or filetype.widths[g:g + n] != etype.widths or filetype.displacements[g:g + n] != shifted:
+                return None
+        return found
+
+    def holes(self, origins, etype_extent, filetype_extent):
+        between = [b - a - etype_extent for a, b in zip(origins, origins[1:])]
+        last = filetype_extent - origins[-1] - etype_extent
+        return [origins[0]] + [hole for hole in between + [last] if hole > 0]
+
+    def entries_overlap(self, filetype):
+        entries = filetype.entries()
+        return any(d + w > following for (w, d), (_, following) in zip(entries, entries[1:]))
+
+    def tiles_overlap(self, filetype):
+        last_end = filetype.displacements[-1] + filetype.widths[-1]
+        return last_end > filetype.displacements[0] + filetype.extent
+
+    def view_refusal(self, mode, displacement, etype, filetype):
+        """The first of the refusals 3 to 10 that applies, or 0."""
+        types = (etype, filetype)
+        if not 0 <= displacement <= MOST_DISPLACEMENT:
+            return 3
+        if any(len(t.widths) != len(t.displacements) for t in types):
+            return 4
+        if not self.counts_allowed(len(etype.widths), len(filetype.widths)):
+            return 4
+        if not all(1 <= t.extent <= LAST_BYTE for t in types):
+            return 5
+        if not all(self.entry_allowed(w, d) for t in types for w, d in t.entries()):
+            return 6
+        if not all(self.ordered(t.displacements) for t in types):
+            return 7
+        origins = self.origins(etype, filetype)
+        if origins is None:
+            return 8
+        if any(hole % etype.extent != 0 for hole in self.holes(origins, etype.extent, filetype.extent)):
+            return 9
+        if mode in WRITING and (self.entries_overlap(filetype) or self.tiles_overlap(filetype)):
+            return 10
+        return 0
+
+    # Check 1
+
+    def handle_allowed(self, handle):
+        view = handle.view
+        return (1 <= handle.mode <= 3 and 0 <= handle.pointer <= OFFSETS
+                and self.counts_allowed(view.entries, view.entries * view.instances)
+                and self.view_refusal(handle.mode, view.displacement, view.etype(), view.filetype()) == 0)
+
+    def file_allowed(self, file):
+        return len(file.data) <= MOST_LENGTH and file.size <= len(file.data)
+
+    # Where an offset lies
+
+    def tile_step(self, view):
+        return view.filetype_extent
+
+    def place(self, view, offset):
+        tile, instance = divmod(offset, view.instances)
+        return view.displacement + tile * self.tile_step(view) + view.origins[instance]
+
+    def data_places(self, view, offset):
+        """The file bytes of the etype at this offset, in the order of its packed data."""
+        begin = self.place(view, offset)
+        return [begin + d + index for w, d in view.etype().entries() for index in range(w)]
+
+    def etype_size(self, view):
+        return sum(view.etype().widths)
+
+    def end_of_instance(self, view, instance, size):
+        """One past the last offset of this instance that begins below the size, 0 if none does."""
+        room = size - view.displacement - view.origins[instance]
+        if room <= 0:
+            return 0
+        tile = (room - 1) // self.tile_step(view)
+        return tile * view.instances + instance + 1
+
+    def end_of_file(self, view, size):
+        return max(self.end_of_instance(view, i, size) for i in range(view.instances))
+
+    # The calls
+
+    def open(self, mode):
+        if mode > 3:
+            return Answer(REFUSED_HANDLE, 16)
+        return Answer(Handle(3 if mode == 0 else mode, 0, DEFAULT_VIEW))
+
+    def after_refused_set(self, handle):
+        return handle
+
+    def set(self, handle, displacement, etype, filetype, representation):
+        if not self.handle_allowed(handle):
+            refusal = 1
+        elif representation != b"native":
+            refusal = 2
+        else:
+            refusal = self.view_refusal(handle.mode, displacement, etype, filetype)
+        if refusal:
+            return Answer(self.after_refused_set(handle), refusal)
+        view = view_of(displacement, etype, filetype, self.origins(etype, filetype))
+        return Answer(replace(handle, pointer=0, view=view))
+
+    def give_back(self, handle, lists):
+        if not self.handle_allowed(handle):
+            return Answer(handle, 1)
+        view, etype, filetype = handle.view, handle.view.etype(), handle.view.filetype()
+        wanted = (etype.widths, etype.displacements, filetype.widths, filetype.displacements)
+        if any(len(lent) < len(want) for lent, want in zip(lists, wanted)):
+            return Answer(handle, 13)
+        for lent, want in zip(lists, wanted):
+            lent[: len(want)] = want
+        numbers = (view.displacement, len(etype.widths), etype.extent, len(filetype.widths), filetype.extent)
+        return Answer(handle, numbers=numbers)
+
+    def place_query(self, handle, offset):
+        if not self.handle_allowed(handle):
+            return Answer(handle, 1)
+        if not 0 <= offset < OFFSETS:
+            return Answer(handle, 12)
+        return Answer(handle, numbers=(self.place(handle.view, offset),))
+
+    def end_query(self, handle, file):
+        if not (self.handle_allowed(handle) and self.file_allowed(file)):
+            return Answer(handle, 1)
+        return Answer(handle, numbers=(self.end_of_file(handle.view, file.size),))
+
+    def seek(self, handle, file, offset, whence):
+        if not (self.handle_allowed(handle) and self.file_allowed(file)):
+            return Answer(handle, 1)
+        if whence not in (0, 1, 2):
+            return Answer(handle, 15)
+        target = (0, handle.pointer, self.end_of_file(handle.view, file.size))[whence] + offset
+        if not 0 <= target <= OFFSETS:
+            return Answer(handle, 12)
+        return Answer(replace(handle, pointer=target))
+
+    def read_refusal(self, handle, file, offset, count, buffer):
+        if not (self.handle_allowed(handle) and self.file_allowed(file)):
+            return 1
+        if handle.mode not in READING:
+            return 11
+        if offset < 0 or offset + count > OFFSETS:
+            return 12
+        if len(buffer) < count * self.etype_size(handle.view):
+            return 13
+        return 0
+
+    def in_file(self, file, places):
+        return all(place < file.size for place in places)
+
+    def read_at(self, handle, file, offset, count, buffer):
+        refusal = self.read_refusal(handle, file, offset, count, buffer)
+        if refusal:
+            return Answer(handle, refusal)
+        size, moved = self.etype_size(handle.view), 0
+        while moved < count:
+            places = self.data_places(handle.view, offset + moved)
+            if not self.in_file(file, places):
+                break
+            for index, place in enumerate(places):
+                buffer[moved * size + index] = file.data[place]
+            moved += 1
+        return Answer(handle, count=moved)
+
+    def read_here(self, handle, file, count, buffer):
+        answer = self.read_at(handle, file, handle.pointer, count, buffer)
+        return replace(answer, handle=replace(handle, pointer=handle.pointer + answer.count))
+
+
+# The script
+
+SLOTS, FILES = 4, 2
+LONGEST_LIST, LONGEST_BUFFER, LONGEST_FILE = 300, 4096, 65536
+CHECKSUM_MODULUS = 4_294_967_291
+CALLS = range(35, 43)
+
+
+class Body:
+    """A record's body: numbers of 8 bytes, low byte first; bytes that it lacks count as 0."""
+
+    def __init__(self, data):
+        self.data = data
+
+    def number(self, index):
+        return int.from_bytes(self.data[8 * index:8 * index + 8], "little")
+
+    def signed(self, index):
+        return signed(self.number(index))
+
+    def numbers(self, first, count):
+        return tuple(self.number(first + i) for i in range(count))
+
+    def after(self, count):
+        return self.data[8 * count:]
+
+
+def signed(number):
+    return number - 2**64 if number >= 2**63 else number
+
+
+def checksum(numbers):
+    s = 7
+    for x in numbers:
+        counted = 2**63 - 1 - x if x < 0 else x
+        s = (s * 65_599 + counted % CHECKSUM_MODULUS + 1) % CHECKSUM_MODULUS
+    return s
+
+
+@lru_cache(maxsize=256)
+def file_checksum(data):
+    return checksum(data)
+
+
+@lru_cache(maxsize=256)
+def file_bytes(length, seed):
+    return bytes((seed + 7 * i + i // 256) % 256 for i in range(length))
+
+
+def handle_checksum(handle):
+    view = handle.view
+    return checksum((handle.mode, view.displacement, view.entries) + view.widths + view.displacements
+                    + (view.etype_extent, view.instances) + view.origins + (view.filetype_extent,))
+
+
+@dataclass(frozen=True)
+class SetRecord:
+    """The body of a set."""
+
+    displacement: int
+    etype: Type
+    filetype: Type
+    representation: bytes
+
+
+def set_record(body):
+    counts = [min(count, LONGEST_LIST) for count in body.numbers(4, 4)]
+    lists, first = [], 8
+    for count in counts:
+        lists.append(body.numbers(first, count))
+        first += count
+    etype = Type(lists[0], tuple(map(signed, lists[1])), body.signed(2))
+    filetype = Type(lists[2], tuple(map(signed, lists[3])), body.signed(3))
+    return SetRecord(body.signed(1), etype, filetype, body.after(first))
+
+
+@dataclass(frozen=True)
+class Step:
+    """One record that was run: its byte place in the script, its answer (None for the file records) and its line."""
+
+    place: int
+    tag: int
+    body: Body
+    answer: Answer
+    line: str
+
+
+@dataclass(frozen=True)
+class Stop:
+    """The end of a run at a record that is cut short or of another tag."""
+
+    place: int
+
+    @property
+    def line(self):
+        return f"stop {self.place}"
+
+
+def is_cut(script, place):
+    header = script[place:place + 3]
+    return len(header) < 3 or place + 3 + int.from_bytes(header[1:], "little") > len(script)
+
+
+class Driver:
+    """The slots and files that a script works on. Each record's method returns its answer and what it was lent."""
+
+    def __init__(self, rules):
+        self.rules = rules
+        self.slots = [REFUSED_HANDLE] * SLOTS
+        self.files = [File(b"", 0)] * FILES
+        self.records = {32: self.new_file, 33: self.file_record, 34: self.forged_handle, 35: self.open, 36: self.set,
+                        37: self.give_back, 38: self.place, 39: self.end, 40: self.seek, 41: self.read_at, 42: self.read_here}
+
+    def handle(self, body):
+        return self.slots[body.number(0) % SLOTS]
+
+    def file(self, body):
+        return self.files[body.number(1) % FILES]
+
+    def new_file(self, body):
+        file, length, size, seed = body.numbers(0, 4)
+        self.files[file % FILES] = File(file_bytes(min(length, LONGEST_FILE), seed % 256), size)
+        return None, []
+
+    def file_record(self, body):
+        file, size = body.numbers(0, 2)
+        self.files[file % FILES] = replace(self.files[file % FILES], size=size)
+        return None, []
+
+    def forged_handle(self, body):
+        view = View(body.number(3), body.number(4), body.numbers(5, 8), body.numbers(13, 8), body.number(21),
+                    body.number(22), body.numbers(23, 64), body.number(87))
+        return Answer(Handle(body.number(1), body.number(2), view)), []
+
+    def open(self, body):
+        return self.rules.open(body.number(1)), []
+
+    def set(self, body):
+        new = set_record(body)
+        answer = self.rules.set(self.handle(body), new.displacement, new.etype, new.filetype, new.representation)
+        return answer, [new.etype.widths, new.etype.displacements, new.filetype.widths, new.filetype.displacements]
+
+    def give_back(self, body):
+        fill = body.number(5) % 2**31
+        lists = [[fill] * min(length, LONGEST_LIST) for length in body.numbers(1, 4)]
+        return self.rules.give_back(self.handle(body), lists), lists
+
+    def place(self, body):
+        return self.rules.place_query(self.handle(body), body.signed(1)), []
+
+    def end(self, body):
+        return self.rules.end_query(self.handle(body), self.file(body)), []
+
+    def seek(self, body):
+        return self.rules.seek(self.handle(body), self.file(body), body.signed(2), body.number(3)), []
+
+    def buffer(self, length, fill):
+        return [fill % 256] * min(length, LONGEST_BUFFER)
+
+    def read_at(self, body):
+        buffer = self.buffer(body.number(4), body.number(5))
+        return self.rules.read_at(self.handle(body), self.file(body), body.signed(2), body.number(3), buffer), [buffer]
+
+    def read_here(self, body):
+        buffer = self.buffer(body.number(3), body.number(4))
+        return self.rules.read_here(self.handle(body), self.file(body), body.number(2), buffer), [buffer]
+
+    def line(self, tag, answer, lent):
+        if answer is None:
+            numbers = [tag] + [0] * 9
+        else:
+            others = padded(answer.numbers, 5)
+            numbers = [tag, answer.refusal, answer.count, *others, answer.handle.pointer, handle_checksum(answer.handle)]
+        for file in self.files:
+            numbers += [file.size, file_checksum(file.data)]
+        return " ".join(map(str, (*numbers, *padded([checksum(one) for one in lent], 4))))
+
+    def step(self, place, tag, body):
+        answer, lent = self.records[tag](body)
+        if answer is not None:
+            self.slots[body.number(0) % SLOTS] = answer.handle
+        return Step(place, tag, body, answer, self.line(tag, answer, lent))
+
+    def steps(self, script):
+        """A Step for each record, and a Stop if the run does not reach the script's end."""
+        place = 0
+        while place < len(script):
+            tag = script[place]
+            if is_cut(script, place) or tag not in self.records:
+                yield Stop(place)
+                return
+            following = place + 3 + int.from_bytes(script[place + 1:place + 3], "little")
+            yield self.step(place, tag, Body(script[place + 3:following]))
+            place = following
+
+
+def run(script, rules=Rules):
+    """The lines that the script prints under these rules."""
+    return [step.line for step in Driver(rules()).steps(script)]
