@@ -10,8 +10,9 @@ use Rattle.view.specs.Places.{place, packedBefore, dataSize, entryOf, dataAt, b
 use Rattle.view.specs.Owners.{entryStart, offsetIn, indexIn, hits, hitEntry, ownerOf}
 use Rattle.view.specs.End.{endFrom, endOfFile}
 use Rattle.mover.specs.Moves.{fileByte, inFile, moved, readInto, writeEnd, newSize, written}
+use Rattle.ranges.specs.Ranges.{targetAllowed, accessAllowed}
 use Rattle.file.specs.Handles.{viewOf, freshHandle, modeGot, handleKept, fileKept, withPointer, withView, withSize}
-use Rattle.file.specs.Refusals.{openRefusal, setViewRefusal, placeRefusal, reverseRefusal, endRefusal, seekTarget, targetAllowed, seekRefusal, accessAllowed, readRefusal, writeRefusal}
+use Rattle.file.specs.Refusals.{openRefusal, setViewRefusal, placeRefusal, reverseRefusal, endRefusal, seekTarget, seekRefusal, readRefusal, writeRefusal}
 use Rattle.file.specs.Answers.{openAnswer, setViewAnswer, placeAnswer, reverseAnswer, endAnswer, seekAnswer, readCount, readAtAnswer, writeAtAnswer, writtenFile}
 use Rattle.figures.specs.Table.{Figures}
 

@@ -1,15 +1,16 @@
 -- Document 01, "Refusal numbers": for each call its checks in its order.
-use Prim.Native.Nat.{ℕ, _+_, _*_}
-use mathlib.Core.Bool.{Bool, false, cond}
+use Prim.Native.Nat.{ℕ, _*_}
+use mathlib.Core.Bool.{cond}
 use mathlib.Core.List.{List}
 use lib.Dec.{leb, eqb}
-use lib.IntN.{ℤ, pos, negsuc, _+ℤ_}
+use lib.IntN.{ℤ, pos, _+ℤ_}
 use Rattle.laws.specs.Checks.{also, check}
-use Rattle.view.specs.Limits.{offsetCount, offsetAllowed, pointerAllowed}
+use Rattle.view.specs.Limits.{offsetAllowed}
 use Rattle.view.specs.Types.{PaperView, entries, whole}
 use Rattle.view.specs.Rules.{setRefusal, allowsReading, allowsWriting}
 use Rattle.view.specs.Places.{dataSize}
 use Rattle.view.specs.End.{endOfFile}
+use Rattle.ranges.specs.Ranges.{targetAllowed, accessAllowed}
 use Rattle.mover.specs.Moves.{writeEnd}
 use Rattle.file.specs.declared.Handle.{Handle}
 use Rattle.file.specs.declared.FileRecord.{FileRecord}
@@ -50,11 +51,6 @@ seekTarget h r o whence =
     (cond (eqb whence 1) (pos (h .pointer) +ℤ o)
     (pos (endOfFile (viewOf h) (r .size)) +ℤ o))
 
--- 12 of seek: the target is from 0 to 2^32
-unfoldable pub targetAllowed : ℤ → Bool
-targetAllowed (pos p) = pointerAllowed p
-targetAllowed (negsuc p) = false
-
 -- seek: 1, 15, 12; the file is looked at for every whence
 unfoldable pub seekRefusal : Handle → ℕ → FileRecord → ℤ → ℕ → ℕ
 seekRefusal h len r o whence =
@@ -62,11 +58,6 @@ seekRefusal h len r o whence =
     (check (leb whence 2) 15
     (check (targetAllowed (seekTarget h r o whence)) 12
     0))
-
--- 12 of an access: the offset is not negative, and offset + count at most 2^32
-unfoldable pub accessAllowed : ℤ → ℕ → Bool
-accessAllowed (pos o) c = leb (o + c) offsetCount
-accessAllowed (negsuc o) c = false
 
 -- read: 1, 11, 12, 13
 unfoldable pub readRefusal : Handle → ℕ → FileRecord → ℤ → ℕ → ℕ → ℕ

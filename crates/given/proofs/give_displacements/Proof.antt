@@ -1,0 +1,86 @@
+-- `give_displacements` stores at each index the displacement of the entry that it stands at, shifted by the origin of the group; they are remainder and quotient of the index. Assumes nothing.
+use Prim.Native.Nat.{_*_, _-_, _/_, _%_, _≤_}
+use mathlib.Core.Path.{_≡_}
+use lib.ListN.{length}
+use Rattle.laws.specs.Lists.{front}
+use Rattle.given.specs.Parts.{groupDisplacement}
+use Rattle.given.proofs.Filling.{displacements}
+use Rattle.given.proofs.give_displacements.Statement.{statement}
+use Rattle.given.proofs.give_displacements.Tie as tie
+
+abbrev Inv-loop : tie.InvT-loop
+Inv-loop origins ds n k out₀ total group₀ entry₀ i₀ out group entry i = (i ≤ k * n) × (group ≡ i / n) × (entry ≡ i % n) × (length out ≡ length out₀) × (out ≡ front (groupDisplacement origins ds n) i out₀)
+
+abbrev μ-loop : tie.MeasureT-loop
+μ-loop origins ds n k out₀ total group₀ entry₀ i₀ out group entry i = k * n - i
+
+mul-total : tie.Need-mul-total Inv-loop μ-loop
+mul-total c = search displacements
+
+loop-holds : tie.Need-loop-holds Inv-loop μ-loop
+loop-holds c = search displacements
+
+mul-shifted : tie.Need-mul-shifted Inv-loop μ-loop
+mul-shifted c = search displacements
+
+element-copy-out-shifted : tie.Need-element-copy-out-shifted Inv-loop μ-loop
+element-copy-out-shifted c = search displacements
+
+mul-shifted-2 : tie.Need-mul-shifted-2 Inv-loop μ-loop
+mul-shifted-2 c = search displacements
+
+element-copy-out-shifted-2 : tie.Need-element-copy-out-shifted-2 Inv-loop μ-loop
+element-copy-out-shifted-2 c = search displacements
+
+shifted-requires : tie.Need-shifted-requires Inv-loop μ-loop
+shifted-requires c κs = search displacements
+
+mul-d : tie.Need-mul-d Inv-loop μ-loop
+mul-d c = search displacements
+
+slice-set-from-d : tie.Need-slice-set-from-d Inv-loop μ-loop
+slice-set-from-d c = search displacements
+
+next-group-requires : tie.Need-next-group-requires Inv-loop μ-loop
+next-group-requires c κs = search displacements
+
+next-entry-requires : tie.Need-next-entry-requires Inv-loop μ-loop
+next-entry-requires c κs = search displacements
+
+add-i : tie.Need-add-i Inv-loop μ-loop
+add-i c = search displacements
+
+loop-less : tie.Need-loop-less Inv-loop μ-loop
+loop-less c = search displacements
+
+loop-again : tie.Need-loop-again Inv-loop μ-loop
+loop-again c = (search displacements, search displacements, search displacements, search displacements, search displacements)
+
+same-length : tie.Need-same-length Inv-loop μ-loop
+same-length c = search displacements
+
+returns : tie.Need-returns Inv-loop μ-loop
+returns c = search displacements
+
+pub give-displacements-spec : {M : Type 1} → statement M
+give-displacements-spec =
+    tie.close
+    (tie.spec
+    Inv-loop
+    μ-loop
+    mul-total
+    loop-holds
+    mul-shifted
+    element-copy-out-shifted
+    mul-shifted-2
+    element-copy-out-shifted-2
+    shifted-requires
+    mul-d
+    slice-set-from-d
+    next-group-requires
+    next-entry-requires
+    add-i
+    loop-less
+    loop-again
+    same-length
+    returns)

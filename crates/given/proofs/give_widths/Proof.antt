@@ -1,0 +1,70 @@
+-- `give_widths` stores at each index the width of the entry that it stands at, which is the remainder of the index. Assumes nothing.
+use Prim.Native.Nat.{_*_, _-_, _%_, _≤_}
+use mathlib.Core.Path.{_≡_}
+use lib.ListN.{length}
+use Rattle.laws.specs.Lists.{front}
+use Rattle.given.specs.Parts.{groupWidth}
+use Rattle.given.proofs.Filling.{widths}
+use Rattle.given.proofs.give_widths.Statement.{statement}
+use Rattle.given.proofs.give_widths.Tie as tie
+
+abbrev Inv-loop : tie.InvT-loop
+Inv-loop ws n k out₀ total entry₀ i₀ out entry i = (i ≤ k * n) × (entry ≡ i % n) × (length out ≡ length out₀) × (out ≡ front (groupWidth ws n) i out₀)
+
+abbrev μ-loop : tie.MeasureT-loop
+μ-loop ws n k out₀ total entry₀ i₀ out entry i = k * n - i
+
+mul-total : tie.Need-mul-total Inv-loop μ-loop
+mul-total c = search widths
+
+loop-holds : tie.Need-loop-holds Inv-loop μ-loop
+loop-holds c = search widths
+
+mul-out : tie.Need-mul-out Inv-loop μ-loop
+mul-out c = search widths
+
+element-copy-out-out : tie.Need-element-copy-out-out Inv-loop μ-loop
+element-copy-out-out c = search widths
+
+mul-out-2 : tie.Need-mul-out-2 Inv-loop μ-loop
+mul-out-2 c = search widths
+
+slice-write-out : tie.Need-slice-write-out Inv-loop μ-loop
+slice-write-out c = search widths
+
+next-entry-requires : tie.Need-next-entry-requires Inv-loop μ-loop
+next-entry-requires c κs = search widths
+
+add-i : tie.Need-add-i Inv-loop μ-loop
+add-i c = search widths
+
+loop-less : tie.Need-loop-less Inv-loop μ-loop
+loop-less c = search widths
+
+loop-again : tie.Need-loop-again Inv-loop μ-loop
+loop-again c = search widths
+
+same-length : tie.Need-same-length Inv-loop μ-loop
+same-length c = search widths
+
+returns : tie.Need-returns Inv-loop μ-loop
+returns c = search widths
+
+pub give-widths-spec : {M : Type 1} → statement M
+give-widths-spec =
+    tie.close
+    (tie.spec
+    Inv-loop
+    μ-loop
+    mul-total
+    loop-holds
+    mul-out
+    element-copy-out-out
+    mul-out-2
+    slice-write-out
+    next-entry-requires
+    add-i
+    loop-less
+    loop-again
+    same-length
+    returns)

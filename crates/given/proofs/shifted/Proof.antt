@@ -1,0 +1,19 @@
+-- `shifted` casts a sum below 2^63, which the signed type reads as itself. Assumes nothing.
+use borrow.Author.Needs.{needs}
+use native.Mathlib.Omega.{arith}
+use mir.Facts.{toZ-pos}
+use mir.Syntax.{w64}
+use Rattle.given.proofs.shifted.Statement.{statement}
+use Rattle.given.proofs.shifted.Tie as tie
+
+add-result : tie.Need-add-result
+add-result c = search needs
+
+cast-result : tie.Need-cast-result
+cast-result c = search needs
+
+returns : tie.Need-returns
+returns c = toZ-pos w64 (omega arith)
+
+pub shifted-spec : {M : Type 1} → statement M
+shifted-spec = tie.close (tie.spec add-result cast-result returns)
