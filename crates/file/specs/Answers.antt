@@ -2,6 +2,7 @@
 -- A refusal carries its number, count 0, any other number 0, and the handle and file record as they came; nothing lent changes.
 use Prim.Native.Nat.{ℕ, _+_}
 use mathlib.Core.List.{List}
+use mathlib.Core.Path.{_≡_}
 use lib.IntN.{ℤ, pos}
 use lib.ListN.{length}
 use Rattle.laws.specs.Checks.{granted}
@@ -65,6 +66,14 @@ widthsGiven n t l = granted n (front (widthAt t) (entries t) l) l
 unfoldable pub displacementsGiven : ℕ → PaperType → List ℤ → List ℤ
 displacementsGiven n t l = granted n (front (λ i. pos (displacementAt t i)) (entries t) l) l
 
+-- the whole of a giving back: the answer, and the four lists after it
+pub record GaveBack (h : Handle) (ew ew' : List ℕ) (ed ed' : List ℤ) (fw fw' : List ℕ) (fd fd' : List ℤ) (r : ViewGiven) : Type 0 where
+  pub answer : r ≡ giveBackAnswer h (length ew) (length ed) (length fw) (length fd)
+  pub etype-widths : ew' ≡ widthsGiven (r .refusal) (viewOf h .etype) ew
+  pub etype-displacements : ed' ≡ displacementsGiven (r .refusal) (viewOf h .etype) ed
+  pub filetype-widths : fw' ≡ widthsGiven (r .refusal) (viewOf h .filetype) fw
+  pub filetype-displacements : fd' ≡ displacementsGiven (r .refusal) (viewOf h .filetype) fd
+
 -- ---- place, reverse, end
 
 unfoldable pub placeAnswer : Handle → ℤ → Placed
@@ -108,6 +117,15 @@ unfoldable pub readAnswer : Handle → ℕ → FileRecord → ℕ → ℕ → Mo
 readAnswer h len r c buffer =
     let a = readAtAnswer h len r (pos (h .pointer)) c buffer in
     record { refusal = a .refusal; count = a .count; handle = granted (a .refusal) (withPointer h (h .pointer + a .count)) h; file = r }
+
+-- the whole of each: the answer, and the buffer after it
+pub record ReadAt (h : Handle) (file : List ℕ) (r : FileRecord) (o : ℤ) (c : ℕ) (before after : List ℕ) (a : Moved) : Type 0 where
+  pub answer : a ≡ readAtAnswer h (length file) r o c (length before)
+  pub buffer : after ≡ readBuffer h file r o c before
+
+pub record ReadNext (h : Handle) (file : List ℕ) (r : FileRecord) (c : ℕ) (before after : List ℕ) (a : Moved) : Type 0 where
+  pub answer : a ≡ readAnswer h (length file) r c (length before)
+  pub buffer : after ≡ readBuffer h file r (pos (h .pointer)) c before
 
 -- ---- a write of c at o, the file after it, and the same at the pointer
 

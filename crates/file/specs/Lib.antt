@@ -1,3 +1,4 @@
 pub mod Handles
 pub mod Refusals
 pub mod Answers
+pub mod Parts

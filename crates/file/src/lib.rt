@@ -1,5 +1,19 @@
-// The file handle, the file record, the modes and the answers of the calls. What each call answers is in specs/.
+// The file handle and its calls: open, setting and giving back a view, place, end of file, seek, and reading at an explicit offset or at the pointer.
+// A call takes the handle by value and hands it back with the answer; a file is a lent run of bytes with a record by value.
+// What each call answers, and what it leaves in everything lent, is defined in specs/.
+ghost use mathlib.Core.Bool.{true};
 ghost use mathlib.Core.Path.{_≡_};
+ghost use Prim.Native.Nat.{_≤_};
+ghost use lib.IntN.{pos};
+ghost use lib.ListN.{length};
+ghost use Rattle.view.specs.Limits.{maxFileLength};
+ghost use Rattle.view.specs.Types.{paper};
+ghost use Rattle.view.specs.Rules.{allowsReading, Kept};
+ghost use Rattle.lent.specs.Lists.{lentType, lentView};
+ghost use Rattle.file.specs.Handles.{freshHandle, modeGot, handleKept, fileKept};
+ghost use Rattle.file.specs.Refusals.{giveBackRefusal, readRefusal};
+ghost use Rattle.file.specs.Answers.{openAnswer, setViewAnswer, GaveBack, placeAnswer, endAnswer, seekAnswer, ReadAt, ReadNext};
+ghost use Rattle.file.specs.Parts.{refusedMove, seekBase, startOf};
 use view::BytePos;
 use view::Offset;
 use view::Owner;
@@ -22,7 +36,7 @@ impl Handle {
 
     pub const MODE_BOTH: u64 = View::MODE_BOTH;
 
-    pub const MAX_POINTER: u64 = 4294967296;
+    pub const MAX_POINTER: u64 = View::OFFSET_COUNT;
 
     pub const MAX_FILE_LENGTH: u64 = View::MAX_FILE_SIZE;
 
@@ -31,6 +45,19 @@ impl Handle {
     pub const SEEK_CURRENT: u64 = 1;
 
     pub const SEEK_END: u64 = 2;
+
+    // Document 01's refusal numbers of the calls; those of a set, 2 to 10, stand with their checks.
+    pub const REFUSED_HANDLE: u64 = 1;
+
+    pub const REFUSED_MODE: u64 = 11;
+
+    pub const REFUSED_RANGE: u64 = 12;
+
+    pub const REFUSED_ROOM: u64 = 13;
+
+    pub const REFUSED_WHENCE: u64 = 15;
+
+    pub const REFUSED_OPEN: u64 = 16;
 }
 
 // What is recorded of a file beside its bytes: its size.
@@ -102,4 +129,390 @@ pub struct Moved {
     pub count: u64,
     pub handle: Handle,
     pub file: FileRecord,
+}
+
+// A refused call that was given a file: handle and record come back as they came.
+fn refused(refusal: u64, handle: Handle, rec: FileRecord) -> Moved
+    ensures { λ r. ⌜ r ≡ refusedMove refusal handle rec ⌝ }
+{
+    Moved {
+        refusal: refusal,
+        count: 0,
+        handle: handle,
+        file: rec,
+    }
+}
+
+fn shape(entries: u64, extent: u64) -> TypeShape
+    ensures { λ r. ⌜ (r .entries ≡ entries) × (r .extent ≡ extent) ⌝ }
+{
+    TypeShape {
+        entries: entries,
+        extent: extent,
+    }
+}
+
+// The mode that an open gets.
+fn mode_got(mode: u64) -> u64
+    ensures { λ r. ⌜ r ≡ modeGot mode ⌝ }
+{
+    if mode == Handle::MODE_UNNAMED {
+        Handle::MODE_BOTH
+    } else {
+        mode
+    }
+}
+
+fn allows_reading(mode: u64) -> bool
+    ensures { λ r. ⌜ r ≡ allowsReading mode ⌝ }
+{
+    if mode == Handle::MODE_READING {
+        return true;
+    }
+    mode == Handle::MODE_BOTH
+}
+
+impl Handle {
+    // A handle with the default view and pointer 0.
+    fn fresh(mode: u64) -> Handle
+        ensures { λ r. ⌜ r ≡ freshHandle mode ⌝ }
+    {
+        let view = View::linear();
+        Handle {
+            mode: mode,
+            pointer: 0,
+            view: view,
+        }
+    }
+
+    // Check 1 where the file is not looked at, of any handle: its mode, its pointer and its view.
+    fn kept(self) -> bool
+        ensures { λ r. ⌜ r ≡ handleKept self ⌝ }
+    {
+        if self.mode < Handle::MODE_READING {
+            return false;
+        }
+        if Handle::MODE_BOTH < self.mode {
+            return false;
+        }
+        if Handle::MAX_POINTER < self.pointer {
+            return false;
+        }
+        let view = self.view;
+        held::keeps(view, self.mode)
+    }
+
+    // Check 1 where the file is looked at: also its length and its size.
+    fn file_kept(self, len: u64, rec: FileRecord) -> bool
+        ensures { λ r. ⌜ r ≡ fileKept self len rec ⌝ }
+    {
+        if !self.kept() {
+            return false;
+        }
+        if Handle::MAX_FILE_LENGTH < len {
+            return false;
+        }
+        rec.size <= len
+    }
+
+    // Opens: the default view, pointer 0 and the mode got. A refused open's handle has mode 0.
+    pub fn open(mode: u64) -> Opened
+        ensures { λ r. ⌜ r ≡ openAnswer mode ⌝ }
+    {
+        if Handle::MODE_BOTH < mode {
+            let none = Handle::fresh(0);
+            return Opened {
+                refusal: Handle::REFUSED_OPEN,
+                count: 0,
+                handle: none,
+            };
+        }
+        let handle = Handle::fresh(mode_got(mode));
+        Opened {
+            refusal: 0,
+            count: 0,
+            handle: handle,
+        }
+    }
+
+    // Sets the view that the lent lists describe, and the pointer to 0.
+    pub fn set_view(
+        mut self,
+        representation: &[u8],
+        displacement: i64,
+        ew: &[u64],
+        ed: &[i64],
+        ex: i64,
+        fw: &[u64],
+        fd: &[i64],
+        fx: i64,
+    ) -> Opened
+        ensures { λ r. ⌜ r ≡ setViewAnswer self (now (representation .entry)) (lentView displacement (lentType (now (ew .entry)) (now (ed .entry)) ex) (lentType (now (fw .entry)) (now (fd .entry)) fx)) ⌝ }
+    {
+        if !self.kept() {
+            return Opened {
+                refusal: Handle::REFUSED_HANDLE,
+                count: 0,
+                handle: self,
+            };
+        }
+        let made = accept::accept(
+            self.mode,
+            representation,
+            displacement,
+            ew,
+            ed,
+            ex,
+            fw,
+            fd,
+            fx,
+        );
+        if made.refusal != 0 {
+            return Opened {
+                refusal: made.refusal,
+                count: 0,
+                handle: self,
+            };
+        }
+        let view = made.view;
+        self.view = view;
+        self.pointer = 0;
+        Opened {
+            refusal: 0,
+            count: 0,
+            handle: self,
+        }
+    }
+
+    // Checks 1 and 13 of giving back, by the lengths of the four lists.
+    fn give_back_refusal(self, ew: u64, ed: u64, fw: u64, fd: u64) -> u64
+        ensures { λ r. ⌜ r ≡ giveBackRefusal self ew ed fw fd ⌝ }
+    {
+        if !self.kept() {
+            return Handle::REFUSED_HANDLE;
+        }
+        let entries = self.view.etype.entries;
+        let all = self.view.filetype.instances * entries;
+        if ew < entries {
+            return Handle::REFUSED_ROOM;
+        }
+        if ed < entries {
+            return Handle::REFUSED_ROOM;
+        }
+        if fw < all {
+            return Handle::REFUSED_ROOM;
+        }
+        if fd < all {
+            return Handle::REFUSED_ROOM;
+        }
+        0
+    }
+
+    // Gives the view back: its typemaps at the front of the four lists, both entry counts, both extents and the displacement.
+    pub fn give_back(
+        self,
+        ew: &mut [u64],
+        ed: &mut [i64],
+        fw: &mut [u64],
+        fd: &mut [i64],
+    ) -> ViewGiven
+        ensures { λ r. ⌜ GaveBack self (now (ew .entry)) (now (ew .exit)) (now (ed .entry)) (now (ed .exit)) (now (fw .entry)) (now (fw .exit)) (now (fd .entry)) (now (fd .exit)) r ⌝ }
+    {
+        let refusal = self.give_back_refusal(
+            ew.len() as u64,
+            ed.len() as u64,
+            fw.len() as u64,
+            fd.len() as u64,
+        );
+        if refusal != 0 {
+            return ViewGiven {
+                refusal: refusal,
+                count: 0,
+                handle: self,
+                displacement: 0,
+                etype: shape(0, 0),
+                filetype: shape(0, 0),
+            };
+        }
+        let view = self.view;
+        given::give_back(view, ew, ed, fw, fd);
+        let entries = view.etype.entries;
+        let all = view.filetype.instances * entries;
+        ViewGiven {
+            refusal: 0,
+            count: 0,
+            handle: self,
+            displacement: view.displacement,
+            etype: shape(entries, view.etype.extent),
+            filetype: shape(all, view.filetype.extent),
+        }
+    }
+
+    // The byte at which the etype at an offset begins.
+    pub fn place(self, o: Offset) -> Placed
+        ensures { λ r. ⌜ r ≡ placeAnswer self (o .0) ⌝ }
+    {
+        if !self.kept() {
+            return Placed {
+                refusal: Handle::REFUSED_HANDLE,
+                count: 0,
+                handle: self,
+                place: BytePos(0),
+            };
+        }
+        if !ranges::offset_allowed(o) {
+            return Placed {
+                refusal: Handle::REFUSED_RANGE,
+                count: 0,
+                handle: self,
+                place: BytePos(0),
+            };
+        }
+        let view = self.view;
+        let place = locate::place_of(view, o);
+        Placed {
+            refusal: 0,
+            count: 0,
+            handle: self,
+            place: place,
+        }
+    }
+
+    // End of file in etypes: the smallest offset such that no etype at it or later begins below the size.
+    pub fn end(self, file: &[u8], rec: FileRecord) -> Ended
+        ensures { λ r. ⌜ r ≡ endAnswer self (length (now (file .entry))) rec ⌝ }
+    {
+        if !self.file_kept(file.len() as u64, rec) {
+            return Ended {
+                refusal: Handle::REFUSED_HANDLE,
+                count: 0,
+                handle: self,
+                file: rec,
+                end: Offset(0),
+            };
+        }
+        let view = self.view;
+        let end = locate::end_of(view, rec.size);
+        Ended {
+            refusal: 0,
+            count: 0,
+            handle: self,
+            file: rec,
+            end: end,
+        }
+    }
+
+    // What a seek adds its offset to: nothing, the pointer or the end of file.
+    fn seek_base(self, rec: FileRecord, whence: u64) -> u64
+        requires { ⌜ Kept (paper (self .view)) × (rec .size ≤ maxFileLength) ⌝ }
+        ensures { λ r. ⌜ r ≡ seekBase self rec whence ⌝ }
+    {
+        if whence == Handle::SEEK_SET {
+            return 0;
+        }
+        if whence == Handle::SEEK_CURRENT {
+            return self.pointer;
+        }
+        let view = self.view;
+        let end = locate::end_of(view, rec.size);
+        view::natural(end.0)
+    }
+
+    // Moves the pointer: `by`, which may be negative, is added to nothing, to the pointer or to the end of file.
+    pub fn seek(mut self, file: &[u8], rec: FileRecord, by: i64, whence: u64) -> Moved
+        ensures { λ r. ⌜ r ≡ seekAnswer self (length (now (file .entry))) rec by whence ⌝ }
+    {
+        if !self.file_kept(file.len() as u64, rec) {
+            return refused(Handle::REFUSED_HANDLE, self, rec);
+        }
+        if Handle::SEEK_END < whence {
+            return refused(Handle::REFUSED_WHENCE, self, rec);
+        }
+        let target = ranges::target_of(self.seek_base(rec, whence), by);
+        if !target.allowed {
+            return refused(Handle::REFUSED_RANGE, self, rec);
+        }
+        self.pointer = target.pointer;
+        Moved {
+            refusal: 0,
+            count: 0,
+            handle: self,
+            file: rec,
+        }
+    }
+
+    // Checks 1, 11, 12 and 13 of a read, for a file of `len` bytes and a buffer of `room` bytes.
+    fn read_refusal(self, len: u64, rec: FileRecord, o: Offset, count: u64, room: u64) -> u64
+        ensures { λ r. ⌜ r ≡ readRefusal self len rec (o .0) count room ⌝ }
+    {
+        if !self.file_kept(len, rec) {
+            return Handle::REFUSED_HANDLE;
+        }
+        if !allows_reading(self.mode) {
+            return Handle::REFUSED_MODE;
+        }
+        if !ranges::access_allowed(o, count) {
+            return Handle::REFUSED_RANGE;
+        }
+        let view = self.view;
+        let etype = view.etype;
+        let packed = copier::data_size(etype);
+        let bytes = count * packed;
+        if room < bytes {
+            return Handle::REFUSED_ROOM;
+        }
+        0
+    }
+
+    // Reads `count` etypes at offset `o` into the buffer; a read that reaches past the size moves fewer. The pointer stays.
+    pub fn read_at(
+        self,
+        file: &[u8],
+        rec: FileRecord,
+        o: Offset,
+        count: u64,
+        buf: &mut [u8],
+    ) -> Moved
+        ensures { λ r. ⌜ ReadAt self (now (file .entry)) rec (o .0) count (now (buf .entry)) (now (buf .exit)) r ⌝ }
+    {
+        let refusal = self.read_refusal(file.len() as u64, rec, o, count, buf.len() as u64);
+        if refusal != 0 {
+            return refused(refusal, self, rec);
+        }
+        let view = self.view;
+        let moved = mover::gather(view, file, rec.size, o, count, buf);
+        Moved {
+            refusal: 0,
+            count: moved,
+            handle: self,
+            file: rec,
+        }
+    }
+
+    // The pointer as an offset; 0 for a pointer that check 1 refuses.
+    fn start(self) -> Offset
+        ensures { λ r. ⌜ r .0 ≡ startOf self ⌝ }
+    {
+        if Handle::MAX_POINTER < self.pointer {
+            return Offset(0);
+        }
+        view::to_offset(self.pointer)
+    }
+
+    // Reads `count` etypes at the pointer and raises it by the number moved.
+    pub fn read(mut self, file: &[u8], rec: FileRecord, count: u64, buf: &mut [u8]) -> Moved
+        ensures { λ r. ⌜ ReadNext self (now (file .entry)) rec count (now (buf .entry)) (now (buf .exit)) r ⌝ }
+    {
+        let done = self.read_at(file, rec, self.start(), count, buf);
+        if done.refusal != 0 {
+            return done;
+        }
+        self.pointer = self.pointer + done.count;
+        Moved {
+            refusal: 0,
+            count: done.count,
+            handle: self,
+            file: rec,
+        }
+    }
 }

@@ -221,6 +221,12 @@ module _ (v : View) (k : Kept (paper v)) where
       (λ q. rw (le-ltb (v .displacement + nth (v .filetype .origins) i) size q) (omega arith))
       (lt-or-le (v .displacement + nth (v .filetype .origins) i) size)
 
+  -- end of file fits a signed number
+  pub end-bound : (size : ℕ) → size ≤ 1099511627776 → endOfFile (paper v) size < 9223372036854775808
+  end-bound size hs =
+      let b = greatest-least (endOn v size) (v .filetype .instances) 70368744177729 (λ k l. end-small size k hs l) in
+      omega (arith, end-is size)
+
   pub end-signed : (size i e : ℕ) → size ≤ 1099511627776 → Highest (endOn v size) i (v .filetype .instances) e → e < 9223372036854775808
   end-signed size i e hs h =
       let b = greatest-least (endOn v size) i 70368744177729 (λ k l. end-small size k hs (omega (arith, h .reached))) in

@@ -3,12 +3,12 @@ use Prim.Native.Nat.{ℕ, _+_, _-_, _≤_, _<_}
 use mathlib.Core.Bool.{Bool, true, false}
 use mathlib.Core.Logic.{⊎-elim}
 use mathlib.Core.Path.{_≡_, refl, sym, ap, _∙_}
-use native.Mathlib.Nat.{eq-zero-or-pos}
+use native.Mathlib.Nat.{mul-le-mul}
 use native.Mathlib.Omega.{arith}
 use Rattle.laws.specs.Search.{total}
 use Rattle.laws.specs.Lists.{nth}
 use Rattle.laws.proofs.Booleans.{lt-or-le, not-both}
-use Rattle.laws.proofs.Sums.{greatest-least, greatest-above, greatest-one, total-same}
+use Rattle.laws.proofs.Sums.{greatest-least, greatest-above, greatest-one, total-same, total-most}
 use Rattle.view.specs.declared.View.{View}
 use Rattle.view.specs.Types.{PaperView, paper, entries, widthAt, displacementAt, whole}
 use Rattle.view.specs.Rules.{Kept}
@@ -47,6 +47,13 @@ module _ (v : View) (k : Kept (paper v)) where
   pub data-is : sizeOf (v .etype .entries) (v .etype .widths) ≡ dataSize (paper v)
   unfolding sizeOf dataSize packedBefore
   data-is = sym (ap (total (widthAt (paper v .etype))) (paper-entries v) ∙ total-same _ _ (v .etype .entries) (λ i l. paper-width v i l))
+
+  pub data-small : dataSize (paper v) ≤ 64
+  unfolding dataSize packedBefore
+  data-small =
+      let m = total-most (widthAt (paper v .etype)) (entries (paper v .etype)) 8 (λ i l. kept .width i l .1) in
+      let b = mul-le-mul {n₁ = entries (paper v .etype)} {m₁ = 8} {n₂ = 8} {m₂ = 8} (kept .few) (omega arith) in
+      omega arith
 
   pub place-in : (x j : ℕ) → placeIn (v .etype .entries) (v .etype .widths) (v .etype .displacements) (place (paper v) x) j ≡ byteOf (paper v) x j
   unfolding placeIn byteOf typeOf dataAt entryOf packedBefore entries widthAt displacementAt whole paper

@@ -40,6 +40,22 @@ unfolding accessAllowed offsetAllowed
 access-offset (pos o) c h l = lt-ltb o 4294967296 (omega (arith, leb-true (o + c) 4294967296 h))
 access-offset (negsuc o) c h l = not-both h refl
 
+-- ---- an offset, by the sign and against the last one
+
+negative-offset : (z : ℤ) → ltZ z (pos 0) ≡ true → false ≡ offsetAllowed z
+unfolding offsetAllowed
+negative-offset (pos n) h = absurd (omega (arith, ltb-true n 0 h))
+negative-offset (negsuc n) h = refl
+
+last-offset : (z : ℤ) (n : ℕ) → n ≡ whole z → ltZ z (pos 0) ≡ false → leb n 4294967295 ≡ offsetAllowed z
+unfolding offsetAllowed whole
+last-offset (pos o) n e h =
+    ⊎-elim
+    (λ q. lt-leb n 4294967295 q ∙ sym (le-ltb o 4294967296 (omega arith)))
+    (λ q. le-leb n 4294967295 q ∙ sym (lt-ltb o 4294967296 (omega arith)))
+    (lt-or-le 4294967295 n)
+last-offset (negsuc o) n e h = absurd (true≢false h)
+
 -- ---- an access, by the sign and by what is left up to 2^32
 
 negative-access : (z : ℤ) (c : ℕ) → ltZ z (pos 0) ≡ true → false ≡ accessAllowed z c
@@ -74,6 +90,15 @@ module _ (z : ℤ) (c : ℕ) (f : SFits w64 z) where
     access-left h l = left-access z c n (e ∙ ap whole (toZ-ofZ f)) (rw (toZ-ofZ f) at h) l
 
 pub ruleset accessing = (needs, access-negative, access-high, access-left)
+
+module _ (z : ℤ) (f : SFits w64 z) where
+  pub offset-negative : ltZ (toZ w64 (ofZ w64 z)) (pos 0) ≡ true → false ≡ offsetAllowed z
+  offset-negative h = negative-offset z (rw (toZ-ofZ f) at h)
+
+  pub offset-last : (n : ℕ) → n ≡ whole (toZ w64 (ofZ w64 z)) → ltZ (toZ w64 (ofZ w64 z)) (pos 0) ≡ false → leb n 4294967295 ≡ offsetAllowed z
+  offset-last n e h = last-offset z n (e ∙ ap whole (toZ-ofZ f)) (rw (toZ-ofZ f) at h)
+
+pub ruleset standing = (needs, offset-negative, offset-last)
 
 -- ---- a seek's target
 

@@ -4,17 +4,25 @@ ghost use mathlib.Core.Path.{_≡_};
 ghost use Prim.Native.Nat.{_+_};
 ghost use lib.IntN.{pos, natAbs, subℕ, _+ℤ_};
 ghost use lib.Signed.{ltZ};
+ghost use Rattle.view.specs.Limits.{offsetAllowed};
 ghost use Rattle.ranges.specs.Ranges.{accessAllowed, targetAt};
 use view::Offset;
 use view::View;
-
-// 2^32: offsets of one etype lie below it, and the pointer reaches it.
-const OFFSET_COUNT: u64 = 4294967296;
 
 // Where a seek goes: whether the pointer may stand there, and the pointer if so, else 0.
 pub struct Target {
     pub allowed: bool,
     pub pointer: u64,
+}
+
+// Whether an etype may stand at `o`.
+pub fn offset_allowed(o: Offset) -> bool
+    ensures { λ r. ⌜ r ≡ offsetAllowed (o .0) ⌝ }
+{
+    if o.0 < View::MIN_OFFSET {
+        return false;
+    }
+    view::natural(o.0) <= View::MAX_OFFSET
 }
 
 // Whether an access of `count` etypes at `o` stays in range.
@@ -25,10 +33,10 @@ pub fn access_allowed(o: Offset, count: u64) -> bool
         return false;
     }
     let at = view::natural(o.0);
-    if OFFSET_COUNT < at {
+    if View::OFFSET_COUNT < at {
         return false;
     }
-    count <= OFFSET_COUNT - at
+    count <= View::OFFSET_COUNT - at
 }
 
 // How far a negative number lies below 0. The smallest one has no negation, but the one above it has.
@@ -44,13 +52,13 @@ fn magnitude(by: i64) -> u64
 fn target_above(base: u64, by: u64) -> Target
     ensures { λ r. ⌜ r ≡ targetAt (pos (base + by)) ⌝ }
 {
-    if OFFSET_COUNT < base {
+    if View::OFFSET_COUNT < base {
         return Target {
             allowed: false,
             pointer: 0,
         };
     }
-    if OFFSET_COUNT - base < by {
+    if View::OFFSET_COUNT - base < by {
         return Target {
             allowed: false,
             pointer: 0,

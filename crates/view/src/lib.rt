@@ -74,6 +74,9 @@ impl View {
 
     pub const MAX_OFFSET: u64 = 4294967295;
 
+    // Offsets of one etype lie below it, and the pointer reaches it.
+    pub const OFFSET_COUNT: u64 = 4294967296;
+
     pub const MAX_FILE_SIZE: u64 = 1099511627776;
     // The modes of an open, by which overlap is judged.
     pub const MODE_READING: u64 = 1;

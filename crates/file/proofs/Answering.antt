@@ -1,0 +1,113 @@
+-- The answers of the calls, from the refusal number that was found and what the functions below gave.
+use Prim.Native.Nat.{ℕ, _+_, _≤_, _<_}
+use mathlib.Core.Bool.{Bool, true, false, not}
+use mathlib.Core.List.{List}
+use mathlib.Core.Path.{_≡_, refl, sym, ap, _∙_}
+use native.Mathlib.Omega.{arith}
+use borrow.Author.Needs.{needs}
+use borrow.Author.Tests.{le-leb, lt-leb}
+use lib.IntN.{ℤ, pos}
+use lib.ListN.{length}
+use mir.Syntax.{w64}
+use mir.Val.{SFits, toZ, ofZ}
+use mir.Facts.{toZ-ofZ}
+use Rattle.laws.specs.Checks.{check, granted}
+use Rattle.laws.proofs.Booleans.{check-yes, check-no, check-zero, granted-yes, granted-no, unflag-true, unflag-false}
+use Rattle.view.specs.declared.BytePos.{BytePos}
+use Rattle.view.specs.declared.Offset.{Offset}
+use Rattle.view.specs.Limits.{offsetAllowed}
+use Rattle.view.specs.Types.{PaperView, paper, whole}
+use Rattle.view.specs.Rules.{setRefusal, hold}
+use Rattle.view.specs.Places.{place}
+use Rattle.view.specs.End.{endOfFile}
+use Rattle.lent.specs.Lists.{lentType, lentView}
+use Rattle.accept.specs.Answers.{acceptAnswer, AcceptedAs}
+use Rattle.accept.specs.declared.Accepted.{Accepted}
+use Rattle.file.specs.declared.Handle.{Handle}
+use Rattle.file.specs.declared.FileRecord.{FileRecord}
+use Rattle.file.specs.declared.Opened.{Opened}
+use Rattle.file.specs.declared.Placed.{Placed}
+use Rattle.file.specs.declared.Ended.{Ended}
+use Rattle.file.specs.Handles.{viewOf, freshHandle, modeGot, handleKept, fileKept, withView}
+use Rattle.file.specs.Refusals.{openRefusal, setViewRefusal, placeRefusal, endRefusal}
+use Rattle.file.proofs.Checking.{judged-view, judged-file-view, judged-size}
+use Rattle.file.specs.Answers.{openAnswer, setViewAnswer, placeAnswer, endAnswer}
+
+-- ---- set
+
+module _ (h : Handle) (representation : List ℕ) (v : PaperView) where
+  set-refused : (n : ℕ) → n ≡ setViewRefusal h representation v → (n ≡ 0 → ⊥) → record { refusal = n; count = 0; handle = h } ≡ setViewAnswer h representation v
+  unfolding setViewAnswer
+  set-refused n e z = let g = granted-no (setViewRefusal h representation v) (withView h (hold v)) h (λ q. z (e ∙ q)) in λ i. record { refusal = e i; count = 0; handle = sym g i }
+
+  module _ (t : Bool) (k : t ≡ handleKept h) where
+    pub set-handle : not t ≡ true → record { refusal = 1; count = 0; handle = h } ≡ setViewAnswer h representation v
+    unfolding setViewRefusal
+    set-handle n = set-refused 1 (check-no _ 1 _ 1 (unflag-false t _ k n) refl) (λ q. omega arith)
+
+    module _ (n : not t ≡ false) (made : Accepted) (a : AcceptedAs (h .mode) representation v made) where
+      is-set : made .refusal ≡ setViewRefusal h representation v
+      unfolding setViewRefusal acceptAnswer
+      is-set = check-yes _ 1 _ (made .refusal) (unflag-true t _ k n) (ap (λ x. x .refusal) (a .answer))
+
+      set-rules : (made .refusal ≡ 0 → ⊥) → record { refusal = made .refusal; count = 0; handle = h } ≡ setViewAnswer h representation v
+      set-rules z = set-refused (made .refusal) is-set z
+
+      set-done : made .refusal ≡ 0 → record { refusal = 0; count = 0; handle = record { mode = h .mode; pointer = 0; view = made .view } } ≡ setViewAnswer h representation v
+      unfolding setViewAnswer withView acceptAnswer
+      set-done z =
+          let r : 0 ≡ setViewRefusal h representation v = sym z ∙ is-set in
+          let g = granted-yes (setViewRefusal h representation v) (withView h (hold v)) h (sym r) in
+          let w : made .view ≡ hold v = ap (λ x. x .view) (a .answer) ∙ granted-yes _ _ _ (sym (ap (λ x. x .refusal) (a .answer)) ∙ z) in
+          λ i. record { refusal = r i; count = 0; handle = (ap (withView h) w ∙ sym g) i }
+
+-- the same, with the signed numbers as the machine reads them
+module _ (h : Handle) (representation : List ℕ) (d : ℤ) (ew : List ℕ) (ed : List ℤ) (ex : ℤ) (fw : List ℕ) (fd : List ℤ) (fx : ℤ) (sd : SFits w64 d) (sx : SFits w64 ex) (sf : SFits w64 fx) (t : Bool) (k : t ≡ handleKept h) (n : not t ≡ false) (made : Accepted) (a : AcceptedAs (h .mode) representation (lentView (toZ w64 (ofZ w64 d)) (lentType ew ed (toZ w64 (ofZ w64 ex))) (lentType fw fd (toZ w64 (ofZ w64 fx)))) made) where
+  lent-is : AcceptedAs (h .mode) representation (lentView d (lentType ew ed ex) (lentType fw fd fx)) made
+  lent-is = rw (toZ-ofZ sd, toZ-ofZ sx, toZ-ofZ sf) at a
+
+  pub set-refuses : (made .refusal ≡ 0 → ⊥) → record { refusal = made .refusal; count = 0; handle = h } ≡ setViewAnswer h representation (lentView d (lentType ew ed ex) (lentType fw fd fx))
+  set-refuses z = set-rules h representation _ t k n made lent-is z
+
+  pub set-grants : made .refusal ≡ 0 → record { refusal = 0; count = 0; handle = record { mode = h .mode; pointer = 0; view = made .view } } ≡ setViewAnswer h representation (lentView d (lentType ew ed ex) (lentType fw fd fx))
+  set-grants z = set-done h representation _ t k n made lent-is z
+
+-- ---- place
+
+module _ (h : Handle) (o : ℤ) (t : Bool) (k : t ≡ handleKept h) where
+  pub place-handle : not t ≡ true → record { refusal = 1; count = 0; handle = h; place = record { 0 = 0 } } ≡ placeAnswer h o
+  unfolding placeAnswer placeRefusal check granted
+  place-handle n = rw (unflag-false t _ k n)
+
+  module _ (n : not t ≡ false) (u : Bool) (a : u ≡ offsetAllowed o) where
+    pub place-range : not u ≡ true → record { refusal = 12; count = 0; handle = h; place = record { 0 = 0 } } ≡ placeAnswer h o
+    unfolding placeAnswer placeRefusal check granted
+    place-range m = rw (unflag-true t _ k n, unflag-false u _ a m)
+
+    pub place-done : not u ≡ false → (p : BytePos) → p .0 ≡ place (paper (h .view)) (whole o) → record { refusal = 0; count = 0; handle = h; place = p } ≡ placeAnswer h o
+    unfolding placeAnswer placeRefusal check granted viewOf
+    place-done m p e = rw (unflag-true t _ k n, unflag-true u _ a m) (λ i. record { refusal = 0; count = 0; handle = h; place = record { 0 = e i } })
+
+-- ---- end
+
+module _ (h : Handle) (len : ℕ) (r : FileRecord) (t : Bool) (k : t ≡ fileKept h len r) where
+  pub end-handle : not t ≡ true → record { refusal = 1; count = 0; handle = h; file = r; end = record { 0 = pos 0 } } ≡ endAnswer h len r
+  unfolding endAnswer endRefusal check granted
+  end-handle n = rw (unflag-false t _ k n)
+
+  pub end-done : not t ≡ false → (e : Offset) → e .0 ≡ pos (endOfFile (paper (h .view)) (r .size)) → record { refusal = 0; count = 0; handle = h; file = r; end = e } ≡ endAnswer h len r
+  unfolding endAnswer endRefusal check granted viewOf
+  end-done n e q = rw (unflag-true t _ k n) (λ i. record { refusal = 0; count = 0; handle = h; file = r; end = record { 0 = q i } })
+
+-- ---- open
+
+module _ (mode : ℕ) where
+  pub open-refused : 3 < mode → (h : Handle) → h ≡ freshHandle 0 → record { refusal = 16; count = 0; handle = h } ≡ openAnswer mode
+  unfolding openAnswer openRefusal check granted
+  open-refused l h e = rw (lt-leb mode 3 l) (λ i. record { refusal = 16; count = 0; handle = e i })
+
+  pub open-done : mode ≤ 3 → (got : ℕ) → got ≡ modeGot mode → (h : Handle) → h ≡ freshHandle got → record { refusal = 0; count = 0; handle = h } ≡ openAnswer mode
+  unfolding openAnswer openRefusal check granted
+  open-done l got g h e = rw (le-leb mode 3 l) (λ i. record { refusal = 0; count = 0; handle = (e ∙ ap freshHandle g) i })
+
+pub ruleset answering = (needs, unflag-true, set-handle, set-refuses, set-grants, judged-view, place-handle, place-range, place-done, judged-file-view, judged-size, end-handle, end-done, open-refused, open-done)

@@ -1,0 +1,19 @@
+use Rattle.file.proofs.Answering.{answering}
+use borrow.Author.Needs.{needs}
+use Rattle.file.proofs.Handle.end.Statement.{statement}
+use Rattle.file.proofs.Handle.end.Tie as tie
+
+file-kept-requires : tie.Need-file-kept-requires
+file-kept-requires c κs = search needs
+
+returns : tie.Need-returns
+returns c = search answering
+
+end-of-requires : tie.Need-end-of-requires
+end-of-requires c κs = (search answering, search answering)
+
+returns-2 : tie.Need-returns-2
+returns-2 c = search answering
+
+pub end-spec : {M : Type 1} → statement M
+end-spec = tie.close (tie.spec file-kept-requires returns end-of-requires returns-2)

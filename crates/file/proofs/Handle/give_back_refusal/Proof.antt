@@ -1,0 +1,33 @@
+use Rattle.file.proofs.Returning.{shortness}
+use borrow.Author.Needs.{needs}
+use Rattle.file.proofs.Handle.give_back_refusal.Statement.{statement}
+use Rattle.file.proofs.Handle.give_back_refusal.Tie as tie
+
+kept-requires : tie.Need-kept-requires
+kept-requires c κs = search needs
+
+returns : tie.Need-returns
+returns c = search shortness
+
+mul-all : tie.Need-mul-all
+mul-all c = search shortness
+
+returns-2 : tie.Need-returns-2
+returns-2 c = search shortness
+
+returns-3 : tie.Need-returns-3
+returns-3 c = search shortness
+
+returns-4 : tie.Need-returns-4
+returns-4 c = search shortness
+
+returns-5 : tie.Need-returns-5
+returns-5 c = search shortness
+
+returns-6 : tie.Need-returns-6
+returns-6 c = search shortness
+
+pub give-back-refusal-spec : {M : Type 1} → statement M
+give-back-refusal-spec =
+    tie.close
+    (tie.spec kept-requires returns mul-all returns-2 returns-3 returns-4 returns-5 returns-6)

@@ -1,0 +1,27 @@
+use Rattle.file.proofs.Readable.{reading}
+use borrow.Author.Needs.{needs}
+use Rattle.file.proofs.Handle.read_at.Statement.{statement}
+use Rattle.file.proofs.Handle.read_at.Tie as tie
+
+read-refusal-requires : tie.Need-read-refusal-requires
+read-refusal-requires c κs = search needs
+
+refused-requires : tie.Need-refused-requires
+refused-requires c κs = search needs
+
+returns : tie.Need-returns
+returns c = search reading
+
+gather-requires : tie.Need-gather-requires
+gather-requires c κs = search reading
+
+same-length : tie.Need-same-length
+same-length c = search needs
+
+returns-2 : tie.Need-returns-2
+returns-2 c = search reading
+
+pub read-at-spec : {M : Type 1} → statement M
+read-at-spec =
+    tie.close
+    (tie.spec read-refusal-requires refused-requires returns gather-requires same-length returns-2)

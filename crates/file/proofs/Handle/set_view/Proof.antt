@@ -1,0 +1,22 @@
+use Rattle.file.proofs.Answering.{answering}
+use borrow.Author.Needs.{needs}
+use Rattle.file.proofs.Handle.set_view.Statement.{statement}
+use Rattle.file.proofs.Handle.set_view.Tie as tie
+
+kept-requires : tie.Need-kept-requires
+kept-requires c κs = search needs
+
+returns : tie.Need-returns
+returns c = search answering
+
+accept-requires : tie.Need-accept-requires
+accept-requires c κs = search needs
+
+returns-2 : tie.Need-returns-2
+returns-2 c = search answering
+
+returns-3 : tie.Need-returns-3
+returns-3 c = search answering
+
+pub set-view-spec : {M : Type 1} → statement M
+set-view-spec = tie.close (tie.spec kept-requires returns accept-requires returns-2 returns-3)

@@ -1,0 +1,16 @@
+use Rattle.file.proofs.Readable.{starting}
+use borrow.Author.Needs.{needs}
+use Rattle.file.proofs.Handle.start.Statement.{statement}
+use Rattle.file.proofs.Handle.start.Tie as tie
+
+returns : tie.Need-returns
+returns c = search starting
+
+to-offset-requires : tie.Need-to-offset-requires
+to-offset-requires c κs = search needs
+
+returns-2 : tie.Need-returns-2
+returns-2 c = search starting
+
+pub start-spec : {M : Type 1} → statement M
+start-spec = tie.close (tie.spec returns to-offset-requires returns-2)

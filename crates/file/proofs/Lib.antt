@@ -1,0 +1,5 @@
+pub mod Checking
+pub mod Answering
+pub mod Seeking
+pub mod Readable
+pub mod Returning

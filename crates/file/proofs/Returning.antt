@@ -1,0 +1,143 @@
+-- Giving back: its refusals, what a granted one hands to the function that fills the lists, and the answer.
+use Prim.Native.Nat.{ℕ, _*_, _≤_, _<_}
+use mathlib.Core.Bool.{Bool, true, false, not}
+use mathlib.Core.List.{List}
+use mathlib.Core.Path.{_≡_, refl, sym, ap, _∙_}
+use native.Mathlib.Nat.{mul-le-mul}
+use native.Mathlib.Omega.{arith}
+use borrow.Author.Needs.{needs}
+use borrow.Author.Tests.{leb-true, le-leb, lt-leb}
+use lib.Dec.{leb}
+use lib.IntN.{ℤ, pos}
+use lib.ListN.{length}
+use mir.Syntax.{w64}
+use mir.Val.{Fits}
+use Rattle.laws.specs.Checks.{also, granted}
+use Rattle.laws.specs.Lists.{front}
+use Rattle.laws.proofs.Booleans.{also-true, also-first, also-false, also-inv, check-yes, check-no, check-inv, granted-yes, granted-no, unflag-true, unflag-false}
+use Rattle.view.specs.declared.View.{View}
+use Rattle.view.specs.Types.{paper, entries, widthAt, displacementAt, extentOf, whole}
+use Rattle.view.specs.Rules.{Kept}
+use Rattle.view.proofs.Paper.{paper-entries, paper-file-entries, paper-extent, paper-file-extent, paper-start}
+use Rattle.locate.proofs.Placing.{record-few}
+use Rattle.given.specs.Giving.{Ready, GivenBack}
+use Rattle.mover.proofs.Etypes.{entries-kept}
+use Rattle.file.specs.declared.Handle.{Handle}
+use Rattle.file.specs.declared.TypeShape.{TypeShape}
+use Rattle.file.specs.declared.ViewGiven.{ViewGiven}
+use Rattle.file.specs.Handles.{viewOf, handleKept}
+use Rattle.file.specs.Refusals.{giveBackRefusal}
+use Rattle.file.specs.Answers.{giveBackAnswer, shapeGiven, widthsGiven, displacementsGiven, GaveBack}
+use Rattle.file.proofs.Checking.{handle-view, judged-view}
+
+-- ---- the refusals
+
+pub entries-fit : (v : View) → Kept (paper v) → Fits w64 (v .filetype .instances * v .etype .entries)
+entries-fit v k =
+    let m = mul-le-mul {n₁ = v .filetype .instances} {m₁ = v .etype .entries} {n₂ = 64} {m₂ = 8} (record-few v k) (entries-kept v k .few) in
+    record { fits = omega arith }
+
+module _ (h : Handle) (ew ed fw fd : ℕ) (t : Bool) (k : t ≡ handleKept h) where
+  pub give-handle : not t ≡ true → 1 ≡ giveBackRefusal h ew ed fw fd
+  unfolding giveBackRefusal
+  give-handle n = check-no _ 1 _ 1 (unflag-false t _ k n) refl
+
+  module _ (n : not t ≡ false) where
+    pub give-fits : Fits w64 (h .view .filetype .instances * h .view .etype .entries)
+    give-fits = entries-fit (h .view) (judged-view h t k n)
+
+    short : also (leb (entries (viewOf h .etype)) ew) (also (leb (entries (viewOf h .etype)) ed) (also (leb (entries (viewOf h .filetype)) fw) (leb (entries (viewOf h .filetype)) fd))) ≡ false → 13 ≡ giveBackRefusal h ew ed fw fd
+    unfolding giveBackRefusal
+    short e = check-yes _ 1 _ 13 (unflag-true t _ k n) (check-no _ 13 _ 13 e refl)
+
+    etype-is : entries (viewOf h .etype) ≡ h .view .etype .entries
+    unfolding viewOf
+    etype-is = paper-entries (h .view)
+
+    filetype-is : entries (viewOf h .filetype) ≡ h .view .filetype .instances * h .view .etype .entries
+    unfolding viewOf
+    filetype-is = paper-file-entries (h .view)
+
+    pub short-1 : ew < h .view .etype .entries → 13 ≡ giveBackRefusal h ew ed fw fd
+    short-1 l = short (also-first _ _ (lt-leb _ ew (omega (arith, etype-is))))
+
+    pub short-2 : ed < h .view .etype .entries → 13 ≡ giveBackRefusal h ew ed fw fd
+    short-2 l = short (also-false _ _ (also-first _ _ (lt-leb _ ed (omega (arith, etype-is)))))
+
+    pub short-3 : fw < h .view .filetype .instances * h .view .etype .entries → 13 ≡ giveBackRefusal h ew ed fw fd
+    short-3 l = short (also-false _ _ (also-false _ _ (also-first _ _ (lt-leb _ fw (omega (arith, filetype-is))))))
+
+    pub short-4 : fd < h .view .filetype .instances * h .view .etype .entries → 13 ≡ giveBackRefusal h ew ed fw fd
+    short-4 l = short (also-false _ _ (also-false _ _ (also-false _ _ (lt-leb _ fd (omega (arith, filetype-is))))))
+
+    pub give-granted : h .view .etype .entries ≤ ew → h .view .etype .entries ≤ ed → h .view .filetype .instances * h .view .etype .entries ≤ fw → h .view .filetype .instances * h .view .etype .entries ≤ fd → 0 ≡ giveBackRefusal h ew ed fw fd
+    unfolding giveBackRefusal
+    give-granted a b c d =
+        check-yes _ 1 _ 0 (unflag-true t _ k n)
+        (check-yes _ 13 _ 0 (also-true (le-leb _ ew (omega (arith, etype-is))) (also-true (le-leb _ ed (omega (arith, etype-is))) (also-true (le-leb _ fw (omega (arith, filetype-is))) (le-leb _ fd (omega (arith, filetype-is)))))) refl)
+
+pub ruleset shortness = (needs, give-handle, give-fits, short-1, short-2, short-3, short-4, give-granted)
+
+module _ (h : Handle) (ew ed fw fd n : ℕ) (e : n ≡ giveBackRefusal h ew ed fw fd) (z : n ≡ 0) where
+  passed : (handleKept h ≡ true) × (also (leb (entries (viewOf h .etype)) ew) (also (leb (entries (viewOf h .etype)) ed) (also (leb (entries (viewOf h .filetype)) fw) (leb (entries (viewOf h .filetype)) fd))) ≡ true)
+  unfolding giveBackRefusal
+  passed = let a = check-inv _ 1 _ (omega arith) (sym e ∙ z) in (a .0, check-inv _ 13 _ (omega arith) (a .1) .0)
+
+  view-kept : Kept (paper (h .view))
+  view-kept = handle-view h (passed .0)
+
+  pub all-fits : Fits w64 (h .view .filetype .instances * h .view .etype .entries)
+  all-fits = entries-fit (h .view) view-kept
+
+-- ---- the answer
+
+module _ (h : Handle) (ew : List ℕ) (ed : List ℤ) (fw : List ℕ) (fd : List ℤ) (n : ℕ) (e : n ≡ giveBackRefusal h (length ew) (length ed) (length fw) (length fd)) where
+  pub gave-none : (n ≡ 0 → ⊥) → (s f : TypeShape) → (s .entries ≡ 0) × (s .extent ≡ 0) → (f .entries ≡ 0) × (f .extent ≡ 0) → GaveBack h ew ew ed ed fw fw fd fd (record { refusal = n; count = 0; handle = h; displacement = 0; etype = s; filetype = f })
+  unfolding giveBackAnswer shapeGiven widthsGiven displacementsGiven
+  gave-none z s f a b =
+      let y : giveBackRefusal h (length ew) (length ed) (length fw) (length fd) ≡ 0 → ⊥ = λ q. z (e ∙ q) in
+      record {
+        answer = λ i. record {
+          refusal = e i;
+          count = 0;
+          handle = h;
+          displacement = sym (granted-no _ (whole (viewOf h .displacement)) 0 y) i;
+          etype = record { entries = (a .0 ∙ sym (granted-no _ (entries (viewOf h .etype)) 0 y)) i; extent = (a .1 ∙ sym (granted-no _ (extentOf (viewOf h .etype)) 0 y)) i };
+          filetype = record { entries = (b .0 ∙ sym (granted-no _ (entries (viewOf h .filetype)) 0 y)) i; extent = (b .1 ∙ sym (granted-no _ (extentOf (viewOf h .filetype)) 0 y)) i };
+        };
+        etype-widths = sym (granted-no n _ ew z);
+        etype-displacements = sym (granted-no n _ ed z);
+        filetype-widths = sym (granted-no n _ fw z);
+        filetype-displacements = sym (granted-no n _ fd z);
+      }
+
+  module _ (z : n ≡ 0) where
+    pub give-ready : Ready (paper (h .view)) ew ed fw fd
+    unfolding viewOf
+    give-ready =
+        let p = passed h (length ew) (length ed) (length fw) (length fd) n e z in
+        let a = also-inv _ _ (p .1) in
+        let b = also-inv _ _ (a .1) in
+        let c = also-inv _ _ (b .1) in
+        record { kept = handle-view h (p .0); etype-widths = leb-true _ _ (a .0); etype-displacements = leb-true _ _ (b .0); filetype-widths = leb-true _ _ (c .0); filetype-displacements = leb-true _ _ (c .1) }
+
+    pub gave : (ew' : List ℕ) (ed' : List ℤ) (fw' : List ℕ) (fd' : List ℤ) → GivenBack (paper (h .view)) ew ew' ed ed' fw fw' fd fd' → (s f : TypeShape) → (s .entries ≡ h .view .etype .entries) × (s .extent ≡ h .view .etype .extent) → (f .entries ≡ h .view .filetype .instances * h .view .etype .entries) × (f .extent ≡ h .view .filetype .extent) → GaveBack h ew ew' ed ed' fw fw' fd fd' (record { refusal = 0; count = 0; handle = h; displacement = h .view .displacement; etype = s; filetype = f })
+    unfolding giveBackAnswer shapeGiven widthsGiven displacementsGiven viewOf granted
+    gave ew' ed' fw' fd' g s f a b =
+        let y = sym e ∙ z in
+        record {
+          answer = rw y (λ i. record {
+            refusal = 0;
+            count = 0;
+            handle = h;
+            displacement = sym (paper-start (h .view)) i;
+            etype = record { entries = (a .0 ∙ sym (paper-entries (h .view))) i; extent = (a .1 ∙ sym (paper-extent (h .view))) i };
+            filetype = record { entries = (b .0 ∙ sym (paper-file-entries (h .view))) i; extent = (b .1 ∙ sym (paper-file-extent (h .view))) i };
+          });
+          etype-widths = g .etype-widths;
+          etype-displacements = g .etype-displacements;
+          filetype-widths = g .filetype-widths;
+          filetype-displacements = g .filetype-displacements;
+        }
+
+pub ruleset returning = (needs, gave-none, give-ready, gave)

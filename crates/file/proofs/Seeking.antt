@@ -1,0 +1,95 @@
+-- Seek: what its offset is added to, and the answer by where the target lies.
+use Prim.Native.Nat.{ℕ, _≤_, _<_}
+use mathlib.Core.Bool.{Bool, true, false, not, cond}
+use mathlib.Core.Path.{_≡_, refl, sym, ap, _∙_}
+use native.Mathlib.Omega.{arith}
+use borrow.Author.Needs.{needs}
+use borrow.Author.Tests.{eq-eqb, ne-eqb, le-leb, lt-leb}
+use lib.Dec.{eqb}
+use lib.IntN.{ℤ, pos, _+ℤ_}
+use mir.Syntax.{w64}
+use mir.Val.{SFits, toZ, ofZ}
+use mir.Facts.{toZ-ofZ}
+use Rattle.laws.specs.Checks.{check, granted}
+use Rattle.laws.proofs.Booleans.{cond-yes, cond-no, unflag-true, unflag-false}
+use Rattle.view.specs.declared.Offset.{Offset}
+use Rattle.view.specs.Types.{paper, whole}
+use Rattle.view.specs.Rules.{Kept}
+use Rattle.view.specs.End.{endOfFile}
+use Rattle.ranges.specs.declared.Target.{Target}
+use Rattle.ranges.specs.Ranges.{targetAllowed, targetAt}
+use Rattle.ranges.proofs.Ranging.{zero-plus}
+use Rattle.locate.proofs.Placing.{end-bound}
+use Rattle.file.specs.declared.Handle.{Handle}
+use Rattle.file.specs.declared.FileRecord.{FileRecord}
+use Rattle.file.specs.declared.Moved.{Moved}
+use Rattle.file.specs.Handles.{viewOf, fileKept, withPointer}
+use Rattle.file.specs.Refusals.{seekTarget, seekRefusal}
+use Rattle.file.specs.Answers.{seekAnswer}
+use Rattle.file.specs.Parts.{refusedMove, seekBase}
+use Rattle.file.proofs.Checking.{judged-file-view, judged-size}
+
+-- ---- the base
+
+module _ (h : Handle) (r : FileRecord) (whence : ℕ) where
+  pub base-set : whence ≡ 0 → 0 ≡ seekBase h r whence
+  unfolding seekBase
+  base-set e = cond-yes _ _ _ 0 (eq-eqb whence 0 e) refl
+
+  module _ (n : whence ≡ 0 → ⊥) where
+    pub base-current : whence ≡ 1 → h .pointer ≡ seekBase h r whence
+    unfolding seekBase
+    base-current e = cond-no _ _ _ _ (ne-eqb whence 0 n) (cond-yes _ _ _ _ (eq-eqb whence 1 e) refl)
+
+    pub base-end : (whence ≡ 1 → ⊥) → Kept (paper (h .view)) → r .size ≤ 1099511627776 → (end : Offset) → end .0 ≡ pos (endOfFile (paper (h .view)) (r .size)) → (b : ℕ) → b ≡ whole (toZ w64 (ofZ w64 (end .0))) → b ≡ seekBase h r whence
+    unfolding seekBase viewOf whole
+    base-end m k l end e b q =
+        let z : toZ w64 (ofZ w64 (pos (endOfFile (paper (h .view)) (r .size)))) ≡ pos (endOfFile (paper (h .view)) (r .size)) = toZ-ofZ {w = w64} (record { sfits = end-bound (h .view) k (r .size) l }) in
+        cond-no _ _ _ _ (ne-eqb whence 0 n) (cond-no _ _ _ _ (ne-eqb whence 1 m) (q ∙ ap whole (ap (λ x. toZ w64 (ofZ w64 x)) e ∙ z)))
+
+pub ruleset basing = (needs, base-set, base-current, base-end)
+
+-- ---- the answer
+
+picked : (b c : Bool) (p e : ℕ) (z : ℤ) → cond b z (cond c (pos p +ℤ z) (pos e +ℤ z)) ≡ pos (cond b 0 (cond c p e)) +ℤ z
+picked true c p e z = sym (zero-plus z)
+picked false true p e z = refl
+picked false false p e z = refl
+
+target-is : (h : Handle) (r : FileRecord) (z : ℤ) (whence : ℕ) → seekTarget h r z whence ≡ pos (seekBase h r whence) +ℤ z
+unfolding seekTarget seekBase
+target-is h r z whence = picked (eqb whence 0) (eqb whence 1) (h .pointer) (endOfFile (viewOf h) (r .size)) z
+
+module _ (h : Handle) (len : ℕ) (r : FileRecord) (z : ℤ) (whence : ℕ) (t : Bool) (k : t ≡ fileKept h len r) where
+  pub seek-handle : not t ≡ true → (m : Moved) → m ≡ refusedMove 1 h r → m ≡ seekAnswer h len r z whence
+  unfolding seekAnswer seekRefusal check granted
+  seek-handle n m e = rw (unflag-false t _ k n) e
+
+  module _ (n : not t ≡ false) where
+    pub seek-whence : 2 < whence → (m : Moved) → m ≡ refusedMove 15 h r → m ≡ seekAnswer h len r z whence
+    unfolding seekAnswer seekRefusal check granted
+    seek-whence l m e = rw (unflag-true t _ k n, lt-leb whence 2 l) e
+
+    module _ (l : whence ≤ 2) (s : SFits w64 z) (base : ℕ) (b : base ≡ seekBase h r whence) (g : Target) (a : g ≡ targetAt (pos base +ℤ toZ w64 (ofZ w64 z))) where
+      aims : pos base +ℤ toZ w64 (ofZ w64 z) ≡ seekTarget h r z whence
+      aims = ap (λ (x : ℤ). pos base +ℤ x) (toZ-ofZ s) ∙ ap (λ (x : ℕ). pos x +ℤ z) b ∙ sym (target-is h r z whence)
+
+      goes : g ≡ targetAt (seekTarget h r z whence)
+      goes = a ∙ ap targetAt aims
+
+      allowed-is : g .allowed ≡ targetAllowed (seekTarget h r z whence)
+      unfolding targetAt
+      allowed-is = ap (λ x. x .allowed) goes
+
+      pub seek-range : not (g .allowed) ≡ true → (m : Moved) → m ≡ refusedMove 12 h r → m ≡ seekAnswer h len r z whence
+      unfolding seekAnswer seekRefusal check granted
+      seek-range u m e = rw (unflag-true t _ k n, le-leb whence 2 l, unflag-false (g .allowed) _ allowed-is u) e
+
+      pub seek-done : not (g .allowed) ≡ false → record { refusal = 0; count = 0; handle = record { mode = h .mode; pointer = g .pointer; view = h .view }; file = r } ≡ seekAnswer h len r z whence
+      unfolding seekAnswer seekRefusal check granted withPointer targetAt
+      seek-done u =
+          let y = unflag-true (g .allowed) _ allowed-is u in
+          let p : g .pointer ≡ whole (seekTarget h r z whence) = rw y at (ap (λ x. x .pointer) goes) in
+          rw (unflag-true t _ k n, le-leb whence 2 l, y) (λ i. record { refusal = 0; count = 0; handle = record { mode = h .mode; pointer = p i; view = h .view }; file = r })
+
+pub ruleset seeking = (needs, judged-file-view, judged-size, seek-handle, seek-whence, seek-range, seek-done)

@@ -1,0 +1,12 @@
+use Rattle.file.proofs.Checking.{modes}
+use Rattle.file.proofs.mode_got.Statement.{statement}
+use Rattle.file.proofs.mode_got.Tie as tie
+
+returns : tie.Need-returns
+returns c = search modes
+
+returns-2 : tie.Need-returns-2
+returns-2 c = search modes
+
+pub mode-got-spec : {M : Type 1} → statement M
+mode-got-spec = tie.close (tie.spec returns returns-2)

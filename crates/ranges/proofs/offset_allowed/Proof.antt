@@ -1,0 +1,16 @@
+use Rattle.ranges.proofs.Ranging.{standing}
+use borrow.Author.Needs.{needs}
+use Rattle.ranges.proofs.offset_allowed.Statement.{statement}
+use Rattle.ranges.proofs.offset_allowed.Tie as tie
+
+returns : tie.Need-returns
+returns c = search standing
+
+natural-requires : tie.Need-natural-requires
+natural-requires c κs = search needs
+
+returns-2 : tie.Need-returns-2
+returns-2 c = search standing
+
+pub offset-allowed-spec : {M : Type 1} → statement M
+offset-allowed-spec = tie.close (tie.spec returns natural-requires returns-2)
