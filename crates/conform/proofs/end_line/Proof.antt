@@ -1,0 +1,17 @@
+-- `end_line` asks for the end of file. Assumes nothing.
+use Rattle.conform.proofs.Calls.{end-line-is}
+use borrow.Author.Needs.{needs}
+use Rattle.conform.proofs.end_line.Statement.{statement}
+use Rattle.conform.proofs.end_line.Tie as tie
+
+end-requires : tie.Need-end-requires
+end-requires c κs = search needs
+
+ended-line-requires : tie.Need-ended-line-requires
+ended-line-requires c κs = search needs
+
+returns : tie.Need-returns
+returns c = search end-line-is
+
+pub end-line-spec : {M : Type 1} → statement M
+end-line-spec = tie.close (tie.spec end-requires ended-line-requires returns)

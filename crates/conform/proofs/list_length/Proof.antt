@@ -1,0 +1,17 @@
+-- `list_length` caps the number. Assumes nothing.
+use Rattle.conform.proofs.Calls.{list-length-is}
+use borrow.Author.Needs.{needs}
+use Rattle.conform.proofs.list_length.Statement.{statement}
+use Rattle.conform.proofs.list_length.Tie as tie
+
+number-requires : tie.Need-number-requires
+number-requires c κs = search needs
+
+capped-requires : tie.Need-capped-requires
+capped-requires c κs = search needs
+
+returns : tie.Need-returns
+returns c = list-length-is _ _ _ _ (c .before .number .ensures) (c .capped .ensures)
+
+pub list-length-spec : {M : Type 1} → statement M
+list-length-spec = tie.close (tie.spec number-requires capped-requires returns)

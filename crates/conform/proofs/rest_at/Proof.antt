@@ -1,0 +1,18 @@
+-- `rest_at` is the end where the numbers run past it. Assumes nothing.
+use Rattle.conform.proofs.Calls.{rest-past}
+use native.Mathlib.Omega.{arith}
+use borrow.Author.Needs.{needs}
+use Rattle.conform.proofs.rest_at.Statement.{statement}
+use Rattle.conform.proofs.rest_at.Tie as tie
+
+returns : tie.Need-returns
+returns c = (search needs, rest-past _ _ (c .if1 .taken))
+
+mul-result : tie.Need-mul-result
+mul-result c = search needs
+
+returns-2 : tie.Need-returns-2
+returns-2 c = search needs
+
+pub rest-at-spec : {M : Type 1} → statement M
+rest-at-spec = tie.close (tie.spec returns mul-result returns-2)

@@ -1,0 +1,4 @@
+pub mod Bodies
+pub mod Lines
+pub mod Lent
+pub mod Script
