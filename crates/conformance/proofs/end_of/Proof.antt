@@ -1,0 +1,40 @@
+-- `end_of` answers an end within what was read. Assumes nothing.
+use mathlib.Core.Path.{_∙_, sym}
+use native.Mathlib.Omega.{arith}
+use Rattle.conformance.proofs.Taking.{whole-within}
+use borrow.Author.Needs.{needs}
+use Rattle.conformance.proofs.end_of.Statement.{statement}
+use Rattle.conformance.proofs.end_of.Tie as tie
+
+field-at-requires : tie.Need-field-at-requires
+field-at-requires c κs = search needs
+
+enum-known-found : tie.Need-enum-known-found
+enum-known-found c = search needs
+
+returns : tie.Need-returns
+returns c = search needs
+
+known-requires : tie.Need-known-requires
+known-requires c κs = search needs
+
+returns-2 : tie.Need-returns-2
+returns-2 c = search needs
+
+add-result : tie.Need-add-result
+add-result c = let f = c .before .before .before in record { fits = omega (arith, whole-within _ (f .found .given .0 .0) (f .found .given .0 .1 .0) (f .found .given .0 .1 .1 .0) (sym (f .found .given .1) ∙ f .before .before .field-at .ensures)) }
+
+returns-3 : tie.Need-returns-3
+returns-3 c = let f = c .before .before .before in whole-within _ (f .found .given .0 .0) (f .found .given .0 .1 .0) (f .found .given .0 .1 .1 .0) (sym (f .found .given .1) ∙ f .before .before .field-at .ensures) .1
+
+pub end-of-spec : {M : Type 1} → statement M
+end-of-spec =
+    tie.close
+    (tie.spec
+    field-at-requires
+    enum-known-found
+    returns
+    known-requires
+    returns-2
+    add-result
+    returns-3)
