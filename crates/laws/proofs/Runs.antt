@@ -4,10 +4,10 @@ use mathlib.Core.List.{List, [], _∷_, _++_, append-nil}
 use mathlib.Core.Path.{_≡_, sym, ap, _∙_}
 use native.Mathlib.Nat.{add-zero, add-suc, zero-add, suc-add}
 use native.Mathlib.Omega.{arith}
-use lib.ListN.{length, set, take, drop, take-append-drop, length-drop, drop-of-length-le}
-use lib.Seq.{length-take-le, take-all}
-use Rattle.laws.specs.Lists.{store}
-use Rattle.laws.proofs.Stores.{store-same}
+use lib.ListN.{length, getD, set, take, drop, take-append-drop, length-drop, drop-of-length-le}
+use lib.Seq.{length-take-le, take-all, getD-take, ext-getD}
+use Rattle.laws.specs.Lists.{store, front}
+use Rattle.laws.proofs.Stores.{store-same, length-store, front-at}
 
 -- a stores, then b more
 store-add : {A : Type 0} (place : ℕ → ℕ) (value : ℕ → A) (a b : ℕ) (l : List A) → store place value (a + b) l ≡ store (λ k. place (a + k)) (λ k. value (a + k)) b (store place value a l)
@@ -47,3 +47,11 @@ tail-back place value a n l part h e =
     let q = append-nil part in
     let t = tail-lent a l in
     cc
+
+-- a list stored at the front of another begins it
+pub take-front : {A : Type 0} (d : A) (xs l : List A) (value : ℕ → A) → length xs ≤ length l → ((i : ℕ) → i < length xs → value i ≡ getD xs i d) → take (length xs) (front value (length xs) l) ≡ xs
+take-front d xs l value h same =
+    let s = front value (length xs) l in
+    let e = length-store (λ i. i) value (length xs) l in
+    let n = length-take-le (length xs) s (omega arith) in
+    ext-getD d (take (length xs) s) xs n (λ i q. let b : i < length xs = omega arith in getD-take (length xs) s i d b ∙ front-at value (length xs) l d i b (omega arith) ∙ same i b)

@@ -18,12 +18,12 @@ use Rattle.view.specs.Rules.{paired, entryAllowed, entriesAllowed, insta
 use Rattle.view.proofs.Accepted.{Rules, rules, Facts, facts, accepted-kept, built-entry, entry-built-inv, instances-few}
 
 -- a number that is in range is the natural number taken for it
-displacement-whole : (z : ℤ) → displacementAllowed z ≡ true → pos (whole z) ≡ z
+pub displacement-whole : (z : ℤ) → displacementAllowed z ≡ true → pos (whole z) ≡ z
 unfolding displacementAllowed whole
 displacement-whole (pos d) h = refl
 displacement-whole (negsuc d) h = not-both h refl
 
-extent-whole : (z : ℤ) → extentAllowed z ≡ true → pos (whole z) ≡ z
+pub extent-whole : (z : ℤ) → extentAllowed z ≡ true → pos (whole z) ≡ z
 unfolding extentAllowed whole
 extent-whole (pos x) h = refl
 extent-whole (negsuc x) h = not-both h refl
@@ -33,11 +33,11 @@ unfolding entryDisplacementAllowed whole
 entry-whole w (pos d) h = refl
 entry-whole w (negsuc d) h = not-both h refl
 
-type-whole : (t : PaperType) → entriesAllowed t ≡ true → (i : ℕ) → i < entries t → pos (displacementAt t i) ≡ getD (t .displacements) i (pos 0)
+pub type-whole : (t : PaperType) → entriesAllowed t ≡ true → (i : ℕ) → i < entries t → pos (displacementAt t i) ≡ getD (t .displacements) i (pos 0)
 unfolding entriesAllowed entryAllowed displacementAt
 type-whole t h i l = entry-whole (widthAt t i) (getD (t .displacements) i (pos 0)) (also-inv _ _ (all-at _ (entries t) h i l) .1)
 
-same-length : (t : PaperType) → paired t ≡ true → length (t .displacements) ≡ entries t
+pub same-length : (t : PaperType) → paired t ≡ true → length (t .displacements) ≡ entries t
 unfolding paired entries
 same-length t h = sym (eqb-true (length (t .widths)) (length (t .displacements)) h)
 
