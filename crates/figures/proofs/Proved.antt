@@ -12,12 +12,12 @@ use Rattle.view.specs.End.{endFrom, endOfFile}
 use Rattle.mover.specs.Moves.{fileByte, inFile, moved, readInto, writeEnd, newSize, written}
 use Rattle.ranges.specs.Ranges.{targetAllowed, accessAllowed}
 use Rattle.file.specs.Handles.{viewOf, freshHandle, modeGot, handleKept, fileKept, withPointer, withView, withSize}
-use Rattle.file.specs.Refusals.{openRefusal, setViewRefusal, placeRefusal, reverseRefusal, endRefusal, seekTarget, seekRefusal, readRefusal, writeRefusal}
+use Rattle.file.specs.Refusals.{openRefusal, setViewRefusal, placeRefusal, reverseRefusal, endRefusal, seekTarget, seekRefusal, accessRefusal, readRefusal, writeRefusal}
 use Rattle.file.specs.Answers.{openAnswer, setViewAnswer, placeAnswer, reverseAnswer, endAnswer, seekAnswer, readCount, readAtAnswer, writeAtAnswer, writtenFile}
 use Rattle.figures.specs.Table.{Figures}
 
 pub figures : Figures
-unfolding also either within check granted first all greatest total tabulate store widthAllowed etypeEntriesAllowed filetypeEntriesAllowed entryDisplacementAllowed extentAllowed displacementAllowed offsetAllowed pointerAllowed fileAllowed whole entries widthAt displacementAt extentOf paper defaultView nativeName isNative paired entryAllowed entriesAllowed ordered typeOrdered instances origin entryBuilt built hole holesFit viewHolesFit nextBegins entryApart apart modeAllowed allowsReading allowsWriting viewRefusal setRefusal accepted hold place packedBefore dataSize entryOf dataAt byteOf entryStart offsetIn indexIn hits hitEntry ownerOf endFrom endOfFile fileByte inFile moved readInto writeEnd newSize written viewOf freshHandle modeGot handleKept fileKept withPointer withView withSize openRefusal setViewRefusal placeRefusal reverseRefusal endRefusal seekTarget targetAllowed seekRefusal accessAllowed readRefusal writeRefusal openAnswer setViewAnswer placeAnswer reverseAnswer endAnswer seekAnswer readCount readAtAnswer writeAtAnswer writtenFile
+unfolding also either within check granted first all greatest total tabulate store widthAllowed etypeEntriesAllowed filetypeEntriesAllowed entryDisplacementAllowed extentAllowed displacementAllowed offsetAllowed pointerAllowed fileAllowed whole entries widthAt displacementAt extentOf paper defaultView nativeName isNative paired entryAllowed entriesAllowed ordered typeOrdered instances origin entryBuilt built hole holesFit viewHolesFit nextBegins entryApart apart modeAllowed allowsReading allowsWriting viewRefusal setRefusal accepted hold place packedBefore dataSize entryOf dataAt byteOf entryStart offsetIn indexIn hits hitEntry ownerOf endFrom endOfFile fileByte inFile moved readInto writeEnd newSize written viewOf freshHandle modeGot handleKept fileKept withPointer withView withSize openRefusal setViewRefusal placeRefusal reverseRefusal endRefusal seekTarget targetAllowed seekRefusal accessAllowed accessRefusal readRefusal writeRefusal openAnswer setViewAnswer placeAnswer reverseAnswer endAnswer seekAnswer readCount readAtAnswer writeAtAnswer writtenFile
 figures = record {
   p1-set = refl;
   p1-place = refl;

@@ -32,7 +32,7 @@ use Rattle.file.specs.declared.Handle.{Handle}
 use Rattle.file.specs.declared.FileRecord.{FileRecord}
 use Rattle.file.specs.declared.Moved.{Moved}
 use Rattle.file.specs.Handles.{viewOf, handleKept, fileKept, withPointer}
-use Rattle.file.specs.Refusals.{readRefusal}
+use Rattle.file.specs.Refusals.{accessRefusal, readRefusal}
 use Rattle.file.specs.Answers.{readCount, readAtAnswer, readBuffer, readAnswer, ReadAt, ReadNext}
 use Rattle.file.specs.Parts.{refusedMove, startOf}
 use Rattle.file.proofs.Checking.{judged-file-view, file-kept-view, file-short, file-limit, pointer-high}
@@ -55,7 +55,7 @@ module _ (h : Handle) (len : ℕ) (r : FileRecord) (o : ℤ) (c room : ℕ) (t :
 
       module _ (m : not u ≡ false) (w : Bool) (b : w ≡ accessAllowed o c) where
         pub read-range : not w ≡ true → 12 ≡ readRefusal h len r o c room
-        unfolding readRefusal
+        unfolding readRefusal accessRefusal
         read-range q = check-yes _ 1 _ 12 (unflag-true t _ k n) (check-yes _ 11 _ 12 (unflag-true u _ a m) (check-no _ 12 _ 12 (unflag-false w _ b q) refl))
 
         module _ (q : not w ≡ false) (s : ℕ) (e : s ≡ sizeOf (h .view .etype .entries) (h .view .etype .widths)) where
@@ -68,11 +68,11 @@ module _ (h : Handle) (len : ℕ) (r : FileRecord) (o : ℤ) (c room : ℕ) (t :
               record { fits = omega arith }
 
           pub read-room : room < c * s → 13 ≡ readRefusal h len r o c room
-          unfolding readRefusal viewOf
+          unfolding readRefusal accessRefusal viewOf
           read-room l = check-yes _ 1 _ 13 (unflag-true t _ k n) (check-yes _ 11 _ 13 (unflag-true u _ a m) (check-yes _ 12 _ 13 (unflag-true w _ b q) (check-no _ 13 _ 13 (lt-leb (c * dataSize (paper (h .view))) room (rw s-is at l)) refl)))
 
           pub read-granted : c * s ≤ room → 0 ≡ readRefusal h len r o c room
-          unfolding readRefusal viewOf
+          unfolding readRefusal accessRefusal viewOf
           read-granted l = check-yes _ 1 _ 0 (unflag-true t _ k n) (check-yes _ 11 _ 0 (unflag-true u _ a m) (check-yes _ 12 _ 0 (unflag-true w _ b q) (check-yes _ 13 _ 0 (le-leb (c * dataSize (paper (h .view))) room (rw s-is at l)) refl)))
 
 pub ruleset refusing = (needs, read-handle, read-entries, read-mode, read-range, bytes-fit, read-room, read-granted)
@@ -81,7 +81,7 @@ pub ruleset refusing = (needs, read-handle, read-entries, read-mode, read-range,
 
 module _ (h : Handle) (len : ℕ) (r : FileRecord) (o : ℤ) (c room : ℕ) (z : readRefusal h len r o c room ≡ 0) where
   first-check : (fileKept h len r ≡ true) × (check (allowsReading (h .mode)) 11 (check (accessAllowed o c) 12 (check (leb (c * dataSize (viewOf h)) room) 13 0)) ≡ 0)
-  unfolding readRefusal
+  unfolding readRefusal accessRefusal
   first-check = check-inv _ 1 _ (omega arith) z
 
   range-check : (accessAllowed o c ≡ true) × (check (leb (c * dataSize (viewOf h)) room) 13 0 ≡ 0)

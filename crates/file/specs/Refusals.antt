@@ -59,21 +59,26 @@ seekRefusal h len r o whence =
     (check (targetAllowed (seekTarget h r o whence)) 12
     0))
 
+-- 12 and 13 of an access, then the later checks
+unfoldable pub accessRefusal : Handle → ℤ → ℕ → ℕ → ℕ → ℕ
+accessRefusal h o c buffer later =
+    check (accessAllowed o c) 12
+    (check (leb (c * dataSize (viewOf h)) buffer) 13
+    later)
+
 -- read: 1, 11, 12, 13
 unfoldable pub readRefusal : Handle → ℕ → FileRecord → ℤ → ℕ → ℕ → ℕ
 readRefusal h len r o c buffer =
     check (fileKept h len r) 1
     (check (allowsReading (h .mode)) 11
-    (check (accessAllowed o c) 12
-    (check (leb (c * dataSize (viewOf h)) buffer) 13
-    0)))
+    (accessRefusal h o c buffer
+    0))
 
 -- write: 1, 11, 12, 13, 14; the highest byte lies below the file length
 unfoldable pub writeRefusal : Handle → ℕ → FileRecord → ℤ → ℕ → ℕ → ℕ
 writeRefusal h len r o c buffer =
     check (fileKept h len r) 1
     (check (allowsWriting (h .mode)) 11
-    (check (accessAllowed o c) 12
-    (check (leb (c * dataSize (viewOf h)) buffer) 13
+    (accessRefusal h o c buffer
     (check (leb (writeEnd (viewOf h) (whole o) c) len) 14
-    0))))
+    0)))

@@ -425,10 +425,10 @@ impl Handle {
         if !self.file_kept(file.len() as u64, rec) {
             return refused(Handle::REFUSED_HANDLE, self, rec);
         }
+        let target = ranges::target_of(self.seek_base(rec, whence), by);
         if Handle::SEEK_END < whence {
             return refused(Handle::REFUSED_WHENCE, self, rec);
         }
-        let target = ranges::target_of(self.seek_base(rec, whence), by);
         if !target.allowed {
             return refused(Handle::REFUSED_RANGE, self, rec);
         }
@@ -445,13 +445,16 @@ impl Handle {
     fn read_refusal(self, len: u64, rec: FileRecord, o: Offset, count: u64, room: u64) -> u64
         ensures { λ r. ⌜ r ≡ readRefusal self len rec (o .0) count room ⌝ }
     {
-        if !self.file_kept(len, rec) {
+        let kept = self.file_kept(len, rec);
+        let reads = allows_reading(self.mode);
+        let ranged = ranges::access_allowed(o, count);
+        if !kept {
             return Handle::REFUSED_HANDLE;
         }
-        if !allows_reading(self.mode) {
+        if !reads {
             return Handle::REFUSED_MODE;
         }
-        if !ranges::access_allowed(o, count) {
+        if !ranged {
             return Handle::REFUSED_RANGE;
         }
         let view = self.view;

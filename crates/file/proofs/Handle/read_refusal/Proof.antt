@@ -6,17 +6,17 @@ use Rattle.file.proofs.Handle.read_refusal.Tie as tie
 file-kept-requires : tie.Need-file-kept-requires
 file-kept-requires c κs = search needs
 
-returns : tie.Need-returns
-returns c = search refusing
-
 allows-reading-requires : tie.Need-allows-reading-requires
 allows-reading-requires c κs = search needs
 
-returns-2 : tie.Need-returns-2
-returns-2 c = search refusing
-
 access-allowed-requires : tie.Need-access-allowed-requires
 access-allowed-requires c κs = search needs
+
+returns : tie.Need-returns
+returns c = search refusing
+
+returns-2 : tie.Need-returns-2
+returns-2 c = search refusing
 
 returns-3 : tie.Need-returns-3
 returns-3 c = search refusing
@@ -27,9 +27,10 @@ data-size-requires c κs = search refusing
 mul-bytes : tie.Need-mul-bytes
 mul-bytes c =
     let ranged = c .before .before .before in
-    let reads = ranged .before .before in
-    let kept = reads .before .before in
-    bytes-fit _ _ _ _ _ 0 _ (kept .before .file-kept .ensures) (kept .if1 .left) _ (reads .before .allows-reading .ensures) (reads .if2 .left) _ (ranged .before .access-allowed .ensures) (ranged .if3 .left) _ (c .data-size .ensures)
+    let reads = ranged .before in
+    let kept = reads .before in
+    let calls = kept .before in
+    bytes-fit _ _ _ _ _ 0 _ (calls .before .before .file-kept .ensures) (kept .if1 .left) _ (calls .before .allows-reading .ensures) (reads .if2 .left) _ (calls .access-allowed .ensures) (ranged .if3 .left) _ (c .data-size .ensures)
 
 returns-4 : tie.Need-returns-4
 returns-4 c = search refusing
@@ -42,10 +43,10 @@ read-refusal-spec =
     tie.close
     (tie.spec
     file-kept-requires
-    returns
     allows-reading-requires
-    returns-2
     access-allowed-requires
+    returns
+    returns-2
     returns-3
     data-size-requires
     mul-bytes

@@ -12,17 +12,17 @@ refused-requires c κs = search needs
 returns : tie.Need-returns
 returns c = search seeking
 
-refused-requires-2 : tie.Need-refused-requires-2
-refused-requires-2 c κs = search needs
-
-returns-2 : tie.Need-returns-2
-returns-2 c = search seeking
-
 seek-base-requires : tie.Need-seek-base-requires
 seek-base-requires c κs = search seeking
 
 target-of-requires : tie.Need-target-of-requires
 target-of-requires c κs = search needs
+
+refused-requires-2 : tie.Need-refused-requires-2
+refused-requires-2 c κs = search needs
+
+returns-2 : tie.Need-returns-2
+returns-2 c = search seeking
 
 refused-requires-3 : tie.Need-refused-requires-3
 refused-requires-3 c κs = search needs
@@ -40,10 +40,10 @@ seek-spec =
     file-kept-requires
     refused-requires
     returns
-    refused-requires-2
-    returns-2
     seek-base-requires
     target-of-requires
+    refused-requires-2
+    returns-2
     refused-requires-3
     returns-3
     returns-4)
