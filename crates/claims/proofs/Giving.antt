@@ -1,13 +1,12 @@
 -- A set and the giving back after it: the handle of a granted set keeps check 1, its record stands for the lent view, and so the lists get what was lent.
-use Prim.Native.Nat.{ℕ, _≤_, _<_}
+use Prim.Native.Nat.{ℕ, _≤_}
 use mathlib.Core.Bool.{true}
 use mathlib.Core.List.{List}
 use mathlib.Core.Path.{_≡_, refl, sym, ap, _∙_}
 use native.Mathlib.Omega.{arith}
-use borrow.Author.Needs.{needs}
 use borrow.Author.Tests.{le-leb, eq-eqb}
 use lib.IntN.{ℤ, pos}
-use lib.ListN.{length, getD, take}
+use lib.ListN.{length, take}
 use mir.Syntax.{w64}
 use mir.Val.{SFits, toZ, ofZ}
 use mir.Facts.{toZ-ofZ}
@@ -17,7 +16,7 @@ use Rattle.laws.proofs.Booleans.{also-true, also-inv, check-zero, check-inv, gr
 use Rattle.laws.proofs.Runs.{take-front}
 use Rattle.view.specs.Limits.{pointerAllowed, extentAllowed}
 use Rattle.view.specs.Types.{PaperType, PaperView, paper, entries, widthAt, displacementAt, extentOf, whole}
-use Rattle.view.specs.Rules.{setRefusal, viewRefusal, accepted, entriesAllowed, paired, hold}
+use Rattle.view.specs.Rules.{setRefusal, accepted, entriesAllowed, paired, hold}
 use Rattle.view.proofs.Accepted.{Rules, rules}
 use Rattle.view.proofs.Holding.{displacement-whole, extent-whole, type-whole, same-length, hold-same}
 use Rattle.lent.specs.Lists.{lentType, lentView}
@@ -30,7 +29,6 @@ use Rattle.file.specs.Refusals.{setViewRefusal, giveBackRefusal}
 use Rattle.file.specs.Answers.{setViewAnswer, giveBackAnswer, shapeGiven, widthsGiven, displacementsGiven, GaveBack}
 use Rattle.given.specs.Giving.{Ready}
 use Rattle.file.proofs.Returning.{give-ready}
-use Rattle.claims.specs.declared.SetAndGiven.{SetAndGiven}
 use Rattle.claims.specs.Given.{TypeSame, ViewSame, Roomy, GivenAsSet}
 
 -- ---- a granted set

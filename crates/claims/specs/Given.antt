@@ -1,5 +1,5 @@
 -- Document 01, "Giving the view back fills four lent lists with typemaps equal to those set": a claim about a set and the giving back after it.
-use Prim.Native.Nat.{ℕ, _+_, _≤_}
+use Prim.Native.Nat.{ℕ, _≤_}
 use mathlib.Core.List.{List}
 use mathlib.Core.Path.{_≡_}
 use lib.IntN.{ℤ, pos}

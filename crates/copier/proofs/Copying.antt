@@ -11,13 +11,12 @@ use mir.Syntax.{w64}
 use mir.Val.{Fits}
 use Rattle.laws.specs.Lists.{nth, store, front}
 use Rattle.laws.specs.Search.{total}
-use Rattle.laws.proofs.Stores.{store-none, store-more, store-end, length-store, length-tabulate, tabulate-at}
+use Rattle.laws.proofs.Stores.{store-none, store-more, store-end, length-tabulate, tabulate-at}
 use Rattle.laws.proofs.Runs.{store-run}
 use Rattle.laws.proofs.Sums.{greatest-above, total-more, total-part, total-same, total-most}
-use Rattle.view.specs.declared.Etype.{Etype}
 use Rattle.view.specs.Types.{entries, widthAt, displacementAt, whole}
 use Rattle.view.specs.Places.{packedBefore, dataAt}
-use Rattle.view.proofs.Packing.{packed-none, packed-more, packed-part, data-run}
+use Rattle.view.proofs.Packing.{data-run}
 use Rattle.rules.specs.Parts.{EntriesKept, entryEnd, reachOf}
 use Rattle.copier.specs.Parts.{onward, byteFrom, typeOf, sizeOf, placeIn, byteIn, Lies}
 

@@ -1,5 +1,5 @@
 -- The answers of the calls, from the refusal number that was found and what the functions below gave.
-use Prim.Native.Nat.{ℕ, _+_, _≤_, _<_}
+use Prim.Native.Nat.{ℕ, _≤_, _<_}
 use mathlib.Core.Bool.{Bool, true, false, not}
 use mathlib.Core.List.{List}
 use mathlib.Core.Path.{_≡_, refl, sym, ap, _∙_}
@@ -7,17 +7,16 @@ use native.Mathlib.Omega.{arith}
 use borrow.Author.Needs.{needs}
 use borrow.Author.Tests.{le-leb, lt-leb}
 use lib.IntN.{ℤ, pos}
-use lib.ListN.{length}
 use mir.Syntax.{w64}
 use mir.Val.{SFits, toZ, ofZ}
 use mir.Facts.{toZ-ofZ}
 use Rattle.laws.specs.Checks.{check, granted}
-use Rattle.laws.proofs.Booleans.{check-yes, check-no, check-zero, granted-yes, granted-no, unflag-true, unflag-false}
+use Rattle.laws.proofs.Booleans.{check-yes, check-no, granted-yes, granted-no, unflag-true, unflag-false}
 use Rattle.view.specs.declared.BytePos.{BytePos}
 use Rattle.view.specs.declared.Offset.{Offset}
 use Rattle.view.specs.Limits.{offsetAllowed}
 use Rattle.view.specs.Types.{PaperView, paper, whole}
-use Rattle.view.specs.Rules.{setRefusal, hold}
+use Rattle.view.specs.Rules.{hold}
 use Rattle.view.specs.Places.{place}
 use Rattle.view.specs.End.{endOfFile}
 use Rattle.lent.specs.Lists.{lentType, lentView}
@@ -25,9 +24,6 @@ use Rattle.accept.specs.Answers.{acceptAnswer, AcceptedAs}
 use Rattle.accept.specs.declared.Accepted.{Accepted}
 use Rattle.file.specs.declared.Handle.{Handle}
 use Rattle.file.specs.declared.FileRecord.{FileRecord}
-use Rattle.file.specs.declared.Opened.{Opened}
-use Rattle.file.specs.declared.Placed.{Placed}
-use Rattle.file.specs.declared.Ended.{Ended}
 use Rattle.file.specs.Handles.{viewOf, freshHandle, modeGot, handleKept, fileKept, withView}
 use Rattle.file.specs.Refusals.{openRefusal, setViewRefusal, placeRefusal, endRefusal}
 use Rattle.file.proofs.Checking.{judged-view, judged-file-view, judged-size}

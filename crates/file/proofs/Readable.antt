@@ -4,7 +4,7 @@ use mathlib.Core.Bool.{Bool, true, false, not}
 use mathlib.Core.List.{List}
 use mathlib.Core.Logic.{⊎-elim}
 use mathlib.Core.Path.{_≡_, refl, sym, ap, _∙_}
-use native.Mathlib.Nat.{mul-le-mul, mul-le-mul-left}
+use native.Mathlib.Nat.{mul-le-mul}
 use native.Mathlib.Omega.{arith}
 use borrow.Author.Needs.{needs}
 use borrow.Author.Tests.{leb-true, le-leb, lt-leb}
@@ -31,7 +31,7 @@ use Rattle.mover.proofs.Etypes.{entries-kept, data-is, data-small}
 use Rattle.file.specs.declared.Handle.{Handle}
 use Rattle.file.specs.declared.FileRecord.{FileRecord}
 use Rattle.file.specs.declared.Moved.{Moved}
-use Rattle.file.specs.Handles.{viewOf, handleKept, fileKept, withPointer}
+use Rattle.file.specs.Handles.{viewOf, fileKept, withPointer}
 use Rattle.file.specs.Refusals.{accessRefusal, readRefusal}
 use Rattle.file.specs.Answers.{readCount, readAtAnswer, readBuffer, readAnswer, ReadAt, ReadNext}
 use Rattle.file.specs.Parts.{refusedMove, startOf}

@@ -2,21 +2,20 @@
 use Prim.Native.Nat.{ℕ, _*_, _≤_, _<_}
 use mathlib.Core.Bool.{Bool, true, false, not}
 use mathlib.Core.List.{List}
-use mathlib.Core.Path.{_≡_, refl, sym, ap, _∙_}
+use mathlib.Core.Path.{_≡_, refl, sym, _∙_}
 use native.Mathlib.Nat.{mul-le-mul}
 use native.Mathlib.Omega.{arith}
 use borrow.Author.Needs.{needs}
 use borrow.Author.Tests.{leb-true, le-leb, lt-leb}
 use lib.Dec.{leb}
-use lib.IntN.{ℤ, pos}
+use lib.IntN.{ℤ}
 use lib.ListN.{length}
 use mir.Syntax.{w64}
 use mir.Val.{Fits}
 use Rattle.laws.specs.Checks.{also, granted}
-use Rattle.laws.specs.Lists.{front}
-use Rattle.laws.proofs.Booleans.{also-true, also-first, also-false, also-inv, check-yes, check-no, check-inv, granted-yes, granted-no, unflag-true, unflag-false}
+use Rattle.laws.proofs.Booleans.{also-true, also-first, also-false, also-inv, check-yes, check-no, check-inv, granted-no, unflag-true, unflag-false}
 use Rattle.view.specs.declared.View.{View}
-use Rattle.view.specs.Types.{paper, entries, widthAt, displacementAt, extentOf, whole}
+use Rattle.view.specs.Types.{paper, entries, extentOf, whole}
 use Rattle.view.specs.Rules.{Kept}
 use Rattle.view.proofs.Paper.{paper-entries, paper-file-entries, paper-extent, paper-file-extent, paper-start}
 use Rattle.locate.proofs.Placing.{record-few}
@@ -24,7 +23,6 @@ use Rattle.given.specs.Giving.{Ready, GivenBack}
 use Rattle.mover.proofs.Etypes.{entries-kept}
 use Rattle.file.specs.declared.Handle.{Handle}
 use Rattle.file.specs.declared.TypeShape.{TypeShape}
-use Rattle.file.specs.declared.ViewGiven.{ViewGiven}
 use Rattle.file.specs.Handles.{viewOf, handleKept}
 use Rattle.file.specs.Refusals.{giveBackRefusal}
 use Rattle.file.specs.Answers.{giveBackAnswer, shapeGiven, widthsGiven, displacementsGiven, GaveBack}

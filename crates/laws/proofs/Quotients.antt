@@ -1,7 +1,7 @@
 -- Laws of quotients and remainders by a variable, which `omega` does not read.
-use Prim.Native.Nat.{ℕ, _+_, _*_, _/_, _%_, _≤_, _<_}
+use Prim.Native.Nat.{ℕ, _+_, _*_, _/_, _%_, _<_}
 use mathlib.Core.Path.{_≡_, ap, _∙_}
-use native.Mathlib.Nat.{div-add-mod', mul-add-div-right, mul-add-mod-self-right, mod-eq-of-lt, div-eq-of-lt, add-zero, add-mul, one-mul, mul-le-mul-right, div-lt-iff-lt-mul, div-mul-le-self, le-div-iff-mul-le}
+use native.Mathlib.Nat.{div-add-mod', mul-add-div-right, mul-add-mod-self-right, mod-eq-of-lt, div-eq-of-lt, add-zero, add-mul, one-mul, mul-le-mul-right, div-lt-iff-lt-mul}
 use native.Mathlib.Omega.{arith}
 
 -- quotient and remainder of t whole runs of n and r more

@@ -1,16 +1,13 @@
 -- The etype of a kept view as the copier takes it: its data are the view's, and it lies in the file exactly if its farthest entry does.
 use Prim.Native.Nat.{ℕ, _+_, _-_, _≤_, _<_}
 use mathlib.Core.Bool.{Bool, true, false}
-use mathlib.Core.Logic.{⊎-elim}
 use mathlib.Core.Path.{_≡_, refl, sym, ap, _∙_}
 use native.Mathlib.Nat.{mul-le-mul}
 use native.Mathlib.Omega.{arith}
 use Rattle.laws.specs.Search.{total}
-use Rattle.laws.specs.Lists.{nth}
-use Rattle.laws.proofs.Booleans.{lt-or-le, not-both}
 use Rattle.laws.proofs.Sums.{greatest-least, greatest-above, greatest-one, total-same, total-most}
 use Rattle.view.specs.declared.View.{View}
-use Rattle.view.specs.Types.{PaperView, paper, entries, widthAt, displacementAt, whole}
+use Rattle.view.specs.Types.{paper, entries, widthAt, displacementAt, whole}
 use Rattle.view.specs.Rules.{Kept}
 use Rattle.view.specs.Places.{place, packedBefore, entryOf, dataAt, byteOf, dataSize}
 use Rattle.view.proofs.Paper.{paper-entries, paper-width, paper-displacement}

@@ -1,5 +1,5 @@
 -- The reading mover: before offset x every earlier etype lay in the file and is copied, and the spot is that of x.
-use Prim.Native.Nat.{ℕ, _+_, _-_, _*_, _/_, _%_, _^_, _≤_, _<_}
+use Prim.Native.Nat.{ℕ, _+_, _-_, _*_, _^_, _≤_, _<_}
 use mathlib.Core.Bool.{Bool, true}
 use mathlib.Core.List.{List, _++_}
 use mathlib.Core.Logic.{⊎-elim}
@@ -7,7 +7,7 @@ use mathlib.Core.Path.{_≡_, refl, sym, ap, _∙_}
 use native.Mathlib.Nat.{eq-zero-or-pos, mul-le-mul-right, zero-mul}
 use native.Mathlib.Omega.{arith}
 use borrow.Author.Needs.{needs}
-use lib.IntN.{ℤ, pos}
+use lib.IntN.{ℤ}
 use lib.ListN.{length, take, drop, length-drop}
 use mir.Syntax.{w64}
 use mir.Val.{Fits, toZ, ofZ}
@@ -19,7 +19,6 @@ use Rattle.laws.proofs.Quotients.{run-div, run-mod, times-more}
 use Rattle.view.specs.declared.View.{View}
 use Rattle.view.specs.Limits.{offsetAllowed}
 use Rattle.view.specs.Types.{PaperView, paper, whole}
-use Rattle.view.specs.Rules.{Kept}
 use Rattle.view.specs.Places.{place, byteOf, dataSize}
 use Rattle.rules.specs.Parts.{reachOf}
 use Rattle.locate.specs.declared.Spot.{Spot}
@@ -28,7 +27,7 @@ use Rattle.locate.proofs.Placing.{offset-read, spot-held, spot-place, spot-step
 use Rattle.copier.specs.Parts.{sizeOf, byteIn, placeIn, Lies}
 use Rattle.mover.specs.Moves.{fileByte, inFile, moved, readInto}
 use Rattle.mover.specs.Parts.{Movable, ReadDone}
-use Rattle.mover.proofs.Etypes.{reach, entries-kept, data-is, place-in, reach-small, in-file-yes, in-file-no}
+use Rattle.mover.proofs.Etypes.{entries-kept, data-is, place-in, reach-small, in-file-yes, in-file-no}
 
 -- etype o + t lies in the file
 abbrev pub lying : PaperView → ℕ → ℕ → ℕ → Bool

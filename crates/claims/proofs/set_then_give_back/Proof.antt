@@ -1,3 +1,4 @@
+-- `set_then_give_back` cites the law about the two answers. Assumes nothing.
 use Rattle.claims.proofs.Giving.{claim}
 use borrow.Author.Needs.{needs}
 use Rattle.claims.proofs.set_then_give_back.Statement.{statement}

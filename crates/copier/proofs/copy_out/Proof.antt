@@ -1,3 +1,4 @@
+-- `copy_out` copies entry after entry; together they are the packed data. Assumes nothing.
 use Prim.Native.Nat.{_-_}
 use Rattle.copier.proofs.Copying.{Copying, copying}
 use Rattle.copier.proofs.copy_out.Statement.{statement}

@@ -1,3 +1,4 @@
+-- `copy_run` stores each byte of the run in turn. Assumes nothing.
 use Prim.Native.Nat.{_-_, _≤_}
 use mathlib.Core.Path.{_≡_}
 use lib.ListN.{length}

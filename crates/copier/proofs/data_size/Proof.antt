@@ -1,3 +1,4 @@
+-- `data_size` sums the widths. Assumes nothing.
 use Prim.Native.Nat.{_-_}
 use Rattle.copier.proofs.Copying.{Summed, summing}
 use Rattle.copier.proofs.data_size.Statement.{statement}

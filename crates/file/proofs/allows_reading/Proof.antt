@@ -1,3 +1,4 @@
+-- `allows_reading` holds for modes 1 and 3. Assumes nothing.
 use Rattle.file.proofs.Checking.{modes}
 use Rattle.file.proofs.allows_reading.Statement.{statement}
 use Rattle.file.proofs.allows_reading.Tie as tie

@@ -1,3 +1,4 @@
+-- `mode_got` is 3 for an open that names no mode, else the mode named. Assumes nothing.
 use Rattle.file.proofs.Checking.{modes}
 use Rattle.file.proofs.mode_got.Statement.{statement}
 use Rattle.file.proofs.mode_got.Tie as tie

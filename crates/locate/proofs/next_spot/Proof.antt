@@ -1,3 +1,4 @@
+-- `next_spot` is the next instance, or the first of the next tile. Assumes nothing.
 use Rattle.locate.proofs.Placing.{placing}
 use borrow.Author.Needs.{needs}
 use Rattle.locate.proofs.next_spot.Statement.{statement}

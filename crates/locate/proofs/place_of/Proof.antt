@@ -1,3 +1,4 @@
+-- `place_of` begins where the spot of its offset says. Assumes nothing.
 use Rattle.locate.proofs.Placing.{placing}
 use borrow.Author.Needs.{needs}
 use Rattle.locate.proofs.place_of.Statement.{statement}

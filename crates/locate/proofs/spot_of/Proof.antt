@@ -1,3 +1,4 @@
+-- `spot_of` divides the offset by the number of instances. Assumes nothing.
 use Rattle.locate.proofs.Placing.{placing}
 use borrow.Author.Needs.{needs}
 use Rattle.locate.proofs.spot_of.Statement.{statement}

@@ -1,3 +1,4 @@
+-- `gather` copies each etype that lies in the file and stops at the first that does not. Assumes nothing.
 use Prim.Native.Nat.{_-_}
 use Rattle.mover.proofs.Gathering.{Gathering, gathering}
 use Rattle.mover.proofs.gather.Statement.{statement}

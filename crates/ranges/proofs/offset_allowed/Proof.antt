@@ -1,3 +1,4 @@
+-- `offset_allowed` tests the sign, and the offset against the last one. Assumes nothing.
 use Rattle.ranges.proofs.Ranging.{standing}
 use borrow.Author.Needs.{needs}
 use Rattle.ranges.proofs.offset_allowed.Statement.{statement}

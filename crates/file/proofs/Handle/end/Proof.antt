@@ -1,3 +1,4 @@
+-- `end` follows check 1; what it leaves is what `end_of` requires. Assumes nothing.
 use Rattle.file.proofs.Answering.{answering}
 use borrow.Author.Needs.{needs}
 use Rattle.file.proofs.Handle.end.Statement.{statement}

@@ -1,3 +1,4 @@
+-- `file_kept` tests the handle, the length and the size. Assumes nothing.
 use Rattle.file.proofs.Checking.{keeping}
 use borrow.Author.Needs.{needs}
 use Rattle.file.proofs.Handle.file_kept.Statement.{statement}

@@ -1,3 +1,4 @@
+-- `fresh` has the default view and pointer 0. Assumes nothing.
 use Rattle.file.proofs.Checking.{fresh-is}
 use borrow.Author.Needs.{needs}
 use Rattle.file.proofs.Handle.fresh.Statement.{statement}

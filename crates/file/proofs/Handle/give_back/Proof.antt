@@ -1,3 +1,4 @@
+-- `give_back` refuses, or hands lists that have room to the function that fills them. Assumes nothing.
 use Rattle.file.proofs.Returning.{all-fits, returning}
 use borrow.Author.Needs.{needs}
 use Rattle.file.proofs.Handle.give_back.Statement.{statement}

@@ -1,3 +1,4 @@
+-- `give_back_refusal` follows checks 1 and 13: the entry counts of the record are those of the view on paper. Assumes nothing.
 use Rattle.file.proofs.Returning.{shortness}
 use borrow.Author.Needs.{needs}
 use Rattle.file.proofs.Handle.give_back_refusal.Statement.{statement}

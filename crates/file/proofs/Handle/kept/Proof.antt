@@ -1,3 +1,4 @@
+-- `kept` tests mode, pointer and view. Assumes nothing.
 use Rattle.file.proofs.Checking.{keeping}
 use borrow.Author.Needs.{needs}
 use Rattle.file.proofs.Handle.kept.Statement.{statement}

@@ -1,3 +1,4 @@
+-- `open` refuses modes above 3, and else gives a fresh handle of the mode got. Assumes nothing.
 use Rattle.file.proofs.Answering.{answering}
 use borrow.Author.Needs.{needs}
 use Rattle.file.proofs.Handle.open.Statement.{statement}

@@ -1,3 +1,4 @@
+-- `place` follows checks 1 and 12; what they leave is what `place_of` requires. Assumes nothing.
 use Rattle.laws.proofs.Booleans.{unflag-true}
 use Rattle.file.proofs.Answering.{answering}
 use borrow.Author.Needs.{needs}

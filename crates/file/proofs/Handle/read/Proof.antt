@@ -1,3 +1,4 @@
+-- `read` is the read at the pointer as an offset, after which the pointer is raised by the number moved. Assumes nothing.
 use Rattle.file.proofs.Readable.{nexting}
 use borrow.Author.Needs.{needs}
 use Rattle.file.proofs.Handle.read.Statement.{statement}

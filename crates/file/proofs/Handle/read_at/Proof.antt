@@ -1,3 +1,4 @@
+-- `read_at` refuses, or moves what `gather` moves. Assumes nothing.
 use Rattle.file.proofs.Readable.{reading}
 use borrow.Author.Needs.{needs}
 use Rattle.file.proofs.Handle.read_at.Statement.{statement}

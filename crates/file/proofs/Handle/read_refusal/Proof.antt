@@ -1,3 +1,4 @@
+-- `read_refusal` follows checks 1, 11, 12 and 13; check 12 bounds the count, so that count·S fits. Assumes nothing.
 use Rattle.file.proofs.Readable.{bytes-fit, refusing}
 use borrow.Author.Needs.{needs}
 use Rattle.file.proofs.Handle.read_refusal.Statement.{statement}

@@ -1,3 +1,4 @@
+-- `seek` follows checks 1, 15 and 12; the target is the base plus the offset. Assumes nothing.
 use Rattle.file.proofs.Seeking.{seeking}
 use borrow.Author.Needs.{needs}
 use Rattle.file.proofs.Handle.seek.Statement.{statement}

@@ -1,3 +1,4 @@
+-- `seek_base` is 0, the pointer or the end of file; the end fits a signed number. Assumes nothing.
 use Rattle.file.proofs.Seeking.{basing}
 use borrow.Author.Needs.{needs}
 use Rattle.file.proofs.Handle.seek_base.Statement.{statement}

@@ -1,3 +1,4 @@
+-- `set_view` follows check 1 and the answer of `accept`; a refused set changes nothing. Assumes nothing.
 use Rattle.file.proofs.Answering.{answering}
 use borrow.Author.Needs.{needs}
 use Rattle.file.proofs.Handle.set_view.Statement.{statement}

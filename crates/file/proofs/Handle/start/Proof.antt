@@ -1,3 +1,4 @@
+-- `start` is the pointer as an offset, 0 for one that check 1 refuses. Assumes nothing.
 use Rattle.file.proofs.Readable.{starting}
 use borrow.Author.Needs.{needs}
 use Rattle.file.proofs.Handle.start.Statement.{statement}
