@@ -1,14 +1,14 @@
 -- The line of each kind of record, from what its calls ensure.
 use Prim.Native.Nat.{ℕ, _+_, _-_, _*_, _/_, _%_, _^_, _≤_, _<_, min}
-use mathlib.Core.Bool.{Bool, true, false, cond}
+use mathlib.Core.Bool.{false}
 use mathlib.Core.List.{List, [], _∷_}
-use mathlib.Core.Path.{_≡_, refl, sym, ap, _∙_}
+use mathlib.Core.Path.{_≡_, sym, ap, _∙_}
 use native.Mathlib.Omega.{arith}
-use borrow.Author.Needs.{needs, sfits-of}
-use borrow.Author.Tests.{lt-ltb, le-ltb, le-leb, eq-eqb, ne-eqb}
-use lib.Dec.{ltb, leb, eqb}
+use borrow.Author.Needs.{sfits-of}
+use borrow.Author.Tests.{lt-ltb, le-ltb, le-leb}
+use lib.Dec.{leb}
 use lib.IntN.{ℤ, pos}
-use lib.ListN.{length, getD, take, drop, replicate, length-replicate, getD-replicate, length-drop, length-take}
+use lib.ListN.{length, take, drop, replicate, length-replicate, getD-replicate, length-drop, length-take}
 use lib.Seq.{length-take-le, take-all, getD-take, ext-getD, drop-drop, drop-length, drop-nil}
 use lib.Signed.{mag}
 use mir.Syntax.{w64}
@@ -16,7 +16,7 @@ use mir.Val.{SFits, toZ, ofZ, hbits}
 use mir.Facts.{toZ-ofZ, toZ-pos}
 use Rattle.laws.specs.Checks.{also, within}
 use Rattle.laws.specs.Lists.{nth, tabulate, front}
-use Rattle.laws.proofs.Booleans.{within-low, cond-yes, cond-no}
+use Rattle.laws.proofs.Booleans.{within-low}
 use Rattle.fields.specs.Fields.{numberAt}
 use Rattle.decode.specs.Decoding.{numberFrom, signedFrom}
 use Rattle.digest.specs.Digests.{listDigest, signedDigest}
@@ -35,7 +35,7 @@ use Rattle.conform.specs.declared.Files.{Files}
 use Rattle.conform.specs.Bodies.{signedAt, forgedHandle, listLength, bufferLength, fillByte, slotOf, fileOf, etypeWidths, etypeDisplacements, filetypeWidths, filetypeDisplacements, fillNumber, lentWidths, lentDisplacements, lentBuffer}
 use Rattle.conform.specs.Lines.{noOthers, nothingLent, openedLine, givenLine, placedLine, endedLine, movedLine, handleDigest, shownNumbers}
 use Rattle.conform.specs.Lent.{sumsOf, representationAfter, setWith, givenInto, readAtInto, readInto}
-use Rattle.conform.specs.Script.{forgedLine, openLine, setLine, placeLine, endLine, seekLine, giveBackLine, readAtLine, readLine, isKnown, lineFor, fileLineFor}
+use Rattle.conform.specs.Script.{forgedLine, openLine, setLine, placeLine, endLine, seekLine, giveBackLine, readAtLine, readLine, isKnown}
 use Rattle.conform.proofs.Lists.{front-part, lineOf}
 
 -- ---- lengths
@@ -114,12 +114,6 @@ pub end-line-is : (h : Handle) (bytes : List ℕ) (file : FileRecord) (a : Ended
 unfolding endLine
 end-line-is h bytes file a r ea er = er ∙ ap endedLine ea
 
--- ---- the eighteen numbers
-
-pub shown-is : (tag : ℕ) (l : Line) (f : Files) (v : ℕ) → v ≡ handleDigest (l .handle) → tag ∷ l .refusal ∷ l .count ∷ nth (l .others) 0 ∷ nth (l .others) 1 ∷ nth (l .others) 2 ∷ nth (l .others) 3 ∷ nth (l .others) 4 ∷ l .handle .pointer ∷ v ∷ f .size0 ∷ f .sum0 ∷ f .size1 ∷ f .sum1 ∷ nth (l .lent) 0 ∷ nth (l .lent) 1 ∷ nth (l .lent) 2 ∷ nth (l .lent) 3 ∷ [] ≡ shownNumbers tag l f
-unfolding shownNumbers
-shown-is tag l f v e = rw e
-
 -- ---- 36, 37, 41, 42: with lists and a buffer
 
 pub sums-is : (ew : List ℕ) (ed : List ℤ) (fw : List ℕ) (fd : List ℤ) (a b c d : ℕ) → a ≡ listDigest ew → b ≡ signedDigest ed → c ≡ listDigest fw → d ≡ signedDigest fd → a ∷ b ∷ c ∷ d ∷ [] ≡ sumsOf ew ed fw fd
@@ -141,7 +135,6 @@ set-with-is body h file ew ed fw fd rep d ex fx a sums r fitd fite fitf hd hx hf
 pub given-into-is : (h : Handle) (file : FileRecord) (ew ew' : List ℕ) (ed ed' : List ℤ) (fw fw' : List ℕ) (fd fd' : List ℤ) (a : ViewGiven) (sums : List ℕ) (r : Line) → GaveBack h ew ew' ed ed' fw fw' fd fd' a → sums ≡ sumsOf ew' ed' fw' fd' → r ≡ givenLine a file sums → r ≡ givenInto h file ew ed fw fd
 unfolding givenInto
 given-into-is h file ew ew' ed ed' fw fw' fd fd' a sums r g hs e =
-    let n = ap (λ (x : ViewGiven). x .refusal) (g .answer) in
     let lists : sums ≡ sumsOf (widthsGiven (a .refusal) (viewOf h .etype) ew) (displacementsGiven (a .refusal) (viewOf h .etype) ed) (widthsGiven (a .refusal) (viewOf h .filetype) fw) (displacementsGiven (a .refusal) (viewOf h .filetype) fd) = hs ∙ (λ i. sumsOf (g .etype-widths i) (g .etype-displacements i) (g .filetype-widths i) (g .filetype-displacements i)) in
     e ∙ (λ i. givenLine a file (lists i)) ∙ (λ i. let x = g .answer i in givenLine x file (sumsOf (widthsGiven (x .refusal) (viewOf h .etype) ew) (displacementsGiven (x .refusal) (viewOf h .etype) ed) (widthsGiven (x .refusal) (viewOf h .filetype) fw) (displacementsGiven (x .refusal) (viewOf h .filetype) fd)))
 
@@ -190,6 +183,10 @@ set-line-is body h file n1 n2 n3 n4 ew ed fw fd r h1 h2 h3 h4 hew hed hfw hfd e 
     let d = stored-part (signedFrom body (8 + n1 + n2 + n3)) n4 (pos 0) fd (h4 .1) hfd in
     e ∙ (λ i. setWith body h file (a i) (b i) (c i) (d i)) ∙ (λ i. setWith body h file (tabulate (numberFrom body 8) (h1 .0 i)) (tabulate (signedFrom body (8 + h1 .0 i)) (h2 .0 i)) (tabulate (numberFrom body (8 + h1 .0 i + h2 .0 i)) (h3 .0 i)) (tabulate (signedFrom body (8 + h1 .0 i + h2 .0 i + h3 .0 i)) (h4 .0 i)))
 
+pub fill-number-is : (body : List ℕ) (x : ℕ) → x ≡ numberAt body 5 → (x % 2147483648 ≡ fillNumber body) × (toZ w64 (x % 2147483648) ≡ pos (x % 2147483648))
+unfolding fillNumber
+fill-number-is body x e = (ap (λ (z : ℕ). z % 2147483648) e, toZ-pos w64 (omega arith))
+
 pub give-back-line-is : (body : List ℕ) (h : Handle) (file : FileRecord) (n1 n2 n3 n4 x : ℕ) (z : ℤ) (r : Line) → (n1 ≡ listLength body 1) × (n1 ≤ 300) → (n2 ≡ listLength body 2) × (n2 ≤ 300) → (n3 ≡ listLength body 3) × (n3 ≤ 300) → (n4 ≡ listLength body 4) × (n4 ≤ 300) → (x ≡ fillNumber body) × (z ≡ pos x) → r ≡ givenInto h file (take n1 (replicate 300 x)) (take n2 (replicate 300 z)) (take n3 (replicate 300 x)) (take n4 (replicate 300 z)) → r ≡ giveBackLine body h file
 unfolding giveBackLine lentWidths lentDisplacements
 give-back-line-is body h file n1 n2 n3 n4 x z r h1 h2 h3 h4 hx e =
@@ -200,6 +197,8 @@ give-back-line-is body h file n1 n2 n3 n4 x z r h1 h2 h3 h4 hx e =
     let d = same-part 300 n4 z (h4 .1) in
     e ∙ (λ i. givenInto h file (a i) (b i) (c i) (d i)) ∙ (λ i. givenInto h file (replicate (h1 .0 i) (hx .0 i)) (replicate (h2 .0 i) (q i)) (replicate (h3 .0 i) (hx .0 i)) (replicate (h4 .0 i) (q i)))
 
-pub fill-number-is : (body : List ℕ) (x : ℕ) → x ≡ numberAt body 5 → (x % 2147483648 ≡ fillNumber body) × (toZ w64 (x % 2147483648) ≡ pos (x % 2147483648))
-unfolding fillNumber
-fill-number-is body x e = (ap (λ (z : ℕ). z % 2147483648) e, toZ-pos w64 (omega arith))
+-- ---- the eighteen numbers
+
+pub shown-is : (tag : ℕ) (l : Line) (f : Files) (v : ℕ) → v ≡ handleDigest (l .handle) → tag ∷ l .refusal ∷ l .count ∷ nth (l .others) 0 ∷ nth (l .others) 1 ∷ nth (l .others) 2 ∷ nth (l .others) 3 ∷ nth (l .others) 4 ∷ l .handle .pointer ∷ v ∷ f .size0 ∷ f .sum0 ∷ f .size1 ∷ f .sum1 ∷ nth (l .lent) 0 ∷ nth (l .lent) 1 ∷ nth (l .lent) 2 ∷ nth (l .lent) 3 ∷ [] ≡ shownNumbers tag l f
+unfolding shownNumbers
+shown-is tag l f v e = rw e

@@ -1,23 +1,23 @@
 -- What a loop stored, and parts of local arrays, as lists of a body's numbers.
-use Prim.Native.Nat.{ℕ, _+_, _*_, _/_, _%_, _^_, _≤_, _<_, min}
+use Prim.Native.Nat.{ℕ, _+_, _*_, _/_, _%_, _^_, _≤_, _<_}
 use mathlib.Core.List.{List, [], _∷_}
 use mathlib.Core.Path.{_≡_, refl, sym, ap, _∙_}
 use native.Mathlib.Nat.{mul-add-mod-self-right}
 use native.Mathlib.Omega.{arith}
 use borrow.Author.Needs.{needs, sfits-of}
 use lib.IntN.{ℤ}
-use lib.ListN.{length, getD, take, drop, replicate, length-replicate, getD-replicate}
-use lib.Seq.{ext-getD, getD-take, length-take-le, take-length}
+use lib.ListN.{length, take, replicate}
+use lib.Seq.{getD-take, length-take-le}
 use lib.Signed.{mag}
 use mir.Syntax.{w64}
 use mir.Val.{SFits, toZ, ofZ, hbits}
 use mir.Facts.{toZ-ofZ}
 use Rattle.laws.specs.Lists.{tabulate, front}
-use Rattle.laws.proofs.Stores.{length-tabulate, tabulate-at, tabulate-is, length-store, front-at, store-none, store-more, store-end}
+use Rattle.laws.proofs.Stores.{tabulate-is, length-store, front-at, store-none, store-more, store-end}
 use Rattle.fields.specs.Fields.{numberAt, signedOf}
 use Rattle.view.specs.declared.View.{View}
 use Rattle.view.specs.Types.{whole}
-use Rattle.decode.specs.Decoding.{numberFrom, signedFrom}
+use Rattle.decode.specs.Decoding.{numberFrom}
 use Rattle.file.specs.declared.Handle.{Handle}
 use Rattle.file.specs.declared.FileRecord.{FileRecord}
 use Rattle.file.specs.declared.Ended.{Ended}

@@ -9,7 +9,7 @@ use lib.ListN.{length, take, getD}
 use lib.Seq.{take-suc, take-length, take-all}
 use Rattle.laws.specs.Lists.{nth}
 use Rattle.digest.specs.Digests.{fed, digestOf, listDigest}
-use Rattle.conform.specs.Lines.{digestFrom}
+use Rattle.conform.specs.Parts.{digestFrom}
 
 pub from-append : (s : ℕ) (a b : List ℕ) → digestFrom s (a ++ b) ≡ digestFrom (digestFrom s a) b
 unfolding digestFrom

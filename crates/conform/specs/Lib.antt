@@ -2,3 +2,4 @@ pub mod Bodies
 pub mod Lines
 pub mod Lent
 pub mod Script
+pub mod Parts

@@ -2,7 +2,7 @@
 use Prim.Native.Nat.{ℕ}
 use mathlib.Core.List.{List, [], _∷_, _++_}
 use Rattle.view.specs.Types.{whole}
-use Rattle.digest.specs.Digests.{fed, listDigest}
+use Rattle.digest.specs.Digests.{listDigest}
 use Rattle.file.specs.declared.Handle.{Handle}
 use Rattle.file.specs.declared.FileRecord.{FileRecord}
 use Rattle.file.specs.declared.Opened.{Opened}
@@ -27,14 +27,9 @@ handleNumbers h =
 unfoldable pub handleDigest : Handle → ℕ
 handleDigest h = listDigest (handleNumbers h)
 
--- the checksum of a run whose part before these numbers has checksum s. A reader need not believe this: no public contract cites it
-unfoldable pub digestFrom : ℕ → List ℕ → ℕ
-digestFrom s [] = s
-digestFrom s (x ∷ l) = digestFrom (fed s x) l
-
 -- ---- an answer with the checksums of what was lent
 
--- a list of places that hold nothing
+-- "0 where there is none"
 abbrev pub noOthers : List ℕ
 noOthers = 0 ∷ 0 ∷ 0 ∷ 0 ∷ 0 ∷ []
 

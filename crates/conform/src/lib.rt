@@ -5,7 +5,8 @@ ghost use lib.ListN.{length, drop};
 ghost use Rattle.laws.specs.Lists.{tabulate};
 ghost use Rattle.fields.specs.Fields.{numberAt};
 ghost use Rattle.conform.specs.Bodies.{fileByte, forgedHandle, signedAt, listLength, bufferLength, fillByte, slotOf, fileOf};
-ghost use Rattle.conform.specs.Lines.{digestFrom, handleDigest, openedLine, givenLine, placedLine, endedLine, movedLine, shownNumbers, fileNumbers};
+ghost use Rattle.conform.specs.Lines.{handleDigest, openedLine, givenLine, placedLine, endedLine, movedLine, shownNumbers, fileNumbers};
+ghost use Rattle.conform.specs.Parts.{digestFrom};
 ghost use Rattle.conform.specs.Lent.{sumsOf, setWith, givenInto, readAtInto, readInto};
 ghost use Rattle.conform.specs.Script.{forgedLine, openLine, setLine, giveBackLine, placeLine, endLine, seekLine, readAtLine, readLine, fileLineFor, lineFor, isKnown};
 use file::Ended;
@@ -21,7 +22,7 @@ use view::Offset;
 use view::View;
 
 // The tags of the records.
-pub const FILE: u8 = 32;
+const FILE: u8 = 32;
 
 pub const FILE_RECORD: u8 = 33;
 

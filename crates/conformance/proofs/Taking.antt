@@ -1,15 +1,14 @@
 -- A whole field at the front of what was read lies within it.
-use Prim.Native.Nat.{ℕ, _+_, _*_, _≤_, _<_}
+use Prim.Native.Nat.{ℕ, _+_, _≤_}
 use mathlib.Core.Bool.{Bool, true, false, cond, true≢false}
 use mathlib.Core.List.{List}
 use mathlib.Core.Path.{_≡_, refl}
 use native.Mathlib.Omega.{arith}
 use borrow.Author.Tests.{ltb-false}
-use lib.Dec.{leb, ltb}
+use lib.Dec.{leb}
 use lib.ListN.{length, take, set, length-set, length-take}
 use Rattle.laws.specs.Checks.{either}
 use Rattle.laws.specs.Lists.{nth}
-use Rattle.fields.specs.declared.Field.{Field}
 use Rattle.fields.specs.declared.Field.the-variants.{Whole, Cut, End}
 use Rattle.fields.specs.Fields.{bodyLength, isCut, fieldAt}
 

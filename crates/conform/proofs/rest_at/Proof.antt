@@ -1,6 +1,5 @@
 -- `rest_at` is the end where the numbers run past it. Assumes nothing.
 use Rattle.conform.proofs.Calls.{rest-past}
-use native.Mathlib.Omega.{arith}
 use borrow.Author.Needs.{needs}
 use Rattle.conform.proofs.rest_at.Statement.{statement}
 use Rattle.conform.proofs.rest_at.Tie as tie
