@@ -34,7 +34,7 @@ use Rattle.conform.specs.declared.Line.{Line}
 use Rattle.conform.specs.declared.Files.{Files}
 use Rattle.conform.specs.Bodies.{signedAt, forgedHandle, listLength, bufferLength, fillByte, slotOf, fileOf, etypeWidths, etypeDisplacements, filetypeWidths, filetypeDisplacements, fillNumber, lentWidths, lentDisplacements, lentBuffer}
 use Rattle.conform.specs.Lines.{noOthers, nothingLent, openedLine, givenLine, placedLine, endedLine, movedLine, handleDigest, shownNumbers}
-use Rattle.conform.specs.Lent.{sumsOf, representationAfter, setWith, givenInto, readAtInto, readInto}
+use Rattle.conform.specs.Lent.{sumsOf, representationAfter, setWith, givenInto, readAtInto, readNextInto}
 use Rattle.conform.specs.Script.{forgedLine, openLine, setLine, placeLine, endLine, seekLine, giveBackLine, readAtLine, readLine, isKnown}
 use Rattle.conform.proofs.Lists.{front-part, lineOf}
 
@@ -144,8 +144,8 @@ read-at-into-is h bytes file o k b b' a sum r f g hs e =
     let p : toZ w64 (ofZ w64 o) ≡ o = toZ-ofZ f in
     e ∙ (λ i. movedLine (g .answer i) (hs i)) ∙ (λ i. movedLine (readAtAnswer h (length bytes) file (p i) k (length b)) (listDigest b')) ∙ (λ i. movedLine (readAtAnswer h (length bytes) file o k (length b)) (listDigest (g .buffer i))) ∙ (λ i. movedLine (readAtAnswer h (length bytes) file o k (length b)) (listDigest (readBuffer h bytes file (p i) k b)))
 
-pub read-into-is : (h : Handle) (bytes : List ℕ) (file : FileRecord) (k : ℕ) (b b' : List ℕ) (a : Moved) (sum : ℕ) (r : Line) → ReadNext h bytes file k b b' a → sum ≡ listDigest b' → r ≡ movedLine a sum → r ≡ readInto h bytes file k b
-unfolding readInto
+pub read-into-is : (h : Handle) (bytes : List ℕ) (file : FileRecord) (k : ℕ) (b b' : List ℕ) (a : Moved) (sum : ℕ) (r : Line) → ReadNext h bytes file k b b' a → sum ≡ listDigest b' → r ≡ movedLine a sum → r ≡ readNextInto h bytes file k b
+unfolding readNextInto
 read-into-is h bytes file k b b' a sum r g hs e = e ∙ (λ i. movedLine (g .answer i) (hs i)) ∙ (λ i. movedLine (readAnswer h (length bytes) file k (length b)) (listDigest (g .buffer i)))
 
 -- a part of an array of equal elements
@@ -162,11 +162,11 @@ read-at-line-is body h bytes file z k n v r f hz hk hn hv e =
     let b : take n (replicate 4096 v) ≡ replicate (bufferLength body 4) (fillByte body 5) = same-part 4096 n v (hn .1) ∙ (λ i. replicate (hn .0 i) (hv i)) in
     e ∙ (λ i. readAtInto h bytes file (p i) (hk i) (b i))
 
-pub read-line-is : (body : List ℕ) (h : Handle) (bytes : List ℕ) (file : FileRecord) (k n v : ℕ) (r : Line) → k ≡ numberAt body 2 → (n ≡ bufferLength body 3) × (n ≤ 4096) → v ≡ fillByte body 4 → r ≡ readInto h bytes file k (take n (replicate 4096 v)) → r ≡ readLine body h bytes file
+pub read-line-is : (body : List ℕ) (h : Handle) (bytes : List ℕ) (file : FileRecord) (k n v : ℕ) (r : Line) → k ≡ numberAt body 2 → (n ≡ bufferLength body 3) × (n ≤ 4096) → v ≡ fillByte body 4 → r ≡ readNextInto h bytes file k (take n (replicate 4096 v)) → r ≡ readLine body h bytes file
 unfolding readLine lentBuffer
 read-line-is body h bytes file k n v r hk hn hv e =
     let b : take n (replicate 4096 v) ≡ replicate (bufferLength body 3) (fillByte body 4) = same-part 4096 n v (hn .1) ∙ (λ i. replicate (hn .0 i) (hv i)) in
-    e ∙ (λ i. readInto h bytes file (hk i) (b i))
+    e ∙ (λ i. readNextInto h bytes file (hk i) (b i))
 
 pub part-few : {A : Type 0} (l : List A) (n m : ℕ) → n ≤ m → length (take n l) ≤ m
 part-few l n m h = omega (arith, length-take n l)

@@ -40,5 +40,5 @@ givenInto h file ew ed fw fd =
 unfoldable pub readAtInto : Handle → List ℕ → FileRecord → ℤ → ℕ → List ℕ → Line
 readAtInto h bytes file o c buffer = movedLine (readAtAnswer h (length bytes) file o c (length buffer)) (listDigest (readBuffer h bytes file o c buffer))
 
-unfoldable pub readInto : Handle → List ℕ → FileRecord → ℕ → List ℕ → Line
-readInto h bytes file c buffer = movedLine (readAnswer h (length bytes) file c (length buffer)) (listDigest (readBuffer h bytes file (pos (h .pointer)) c buffer))
+unfoldable pub readNextInto : Handle → List ℕ → FileRecord → ℕ → List ℕ → Line
+readNextInto h bytes file c buffer = movedLine (readAnswer h (length bytes) file c (length buffer)) (listDigest (readBuffer h bytes file (pos (h .pointer)) c buffer))

@@ -13,7 +13,7 @@ use Rattle.file.specs.Answers.{openAnswer, placeAnswer, endAnswer, seekAnswer}
 use Rattle.conform.specs.declared.Line.{Line}
 use Rattle.conform.specs.Bodies.{signedAt, forgedHandle, etypeWidths, etypeDisplacements, filetypeWidths, filetypeDisplacements, lentWidths, lentDisplacements, lentBuffer}
 use Rattle.conform.specs.Lines.{noOthers, nothingLent, openedLine, placedLine, endedLine, movedLine}
-use Rattle.conform.specs.Lent.{setWith, givenInto, readAtInto, readInto}
+use Rattle.conform.specs.Lent.{setWith, givenInto, readAtInto, readNextInto}
 
 -- 34: slot, and the handle's whole record
 unfoldable pub forgedLine : List ℕ → FileRecord → Line
@@ -49,7 +49,7 @@ readAtLine body h bytes file = readAtInto h bytes file (signedAt body 2) (number
 
 -- 42: slot, file, count, buffer length, fill
 unfoldable pub readLine : List ℕ → Handle → List ℕ → FileRecord → Line
-readLine body h bytes file = readInto h bytes file (numberAt body 2) (lentBuffer body 3 4)
+readLine body h bytes file = readNextInto h bytes file (numberAt body 2) (lentBuffer body 3 4)
 
 -- ---- by tag
 

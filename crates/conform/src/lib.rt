@@ -7,7 +7,7 @@ ghost use Rattle.fields.specs.Fields.{numberAt};
 ghost use Rattle.conform.specs.Bodies.{fileByte, forgedHandle, signedAt, listLength, bufferLength, fillByte, slotOf, fileOf};
 ghost use Rattle.conform.specs.Lines.{handleDigest, openedLine, givenLine, placedLine, endedLine, movedLine, shownNumbers, fileNumbers};
 ghost use Rattle.conform.specs.Parts.{digestFrom};
-ghost use Rattle.conform.specs.Lent.{sumsOf, setWith, givenInto, readAtInto, readInto};
+ghost use Rattle.conform.specs.Lent.{sumsOf, setWith, givenInto, readAtInto, readNextInto};
 ghost use Rattle.conform.specs.Script.{forgedLine, openLine, setLine, giveBackLine, placeLine, endLine, seekLine, readAtLine, readLine, fileLineFor, lineFor, isKnown};
 use file::Ended;
 use file::FileRecord;
@@ -43,6 +43,11 @@ const SEEK: u8 = 40;
 const READ_AT: u8 = 41;
 
 const READ: u8 = 42;
+
+// How many handle slots and files the driver holds.
+const SLOT_COUNT: u64 = 4;
+
+const FILE_COUNT: u64 = 2;
 
 // How many numbers of a set stand before its lists.
 const SET_NUMBERS: usize = 8;
@@ -461,7 +466,7 @@ pub fn read_at_line(body: &[u8], h: Handle, file: &[u8], rec: FileRecord) -> Lin
 
 // A read at the pointer into this buffer, and its checksum after it.
 fn read_into(h: Handle, file: &[u8], rec: FileRecord, count: u64, buf: &mut [u8]) -> Line
-    ensures { λ r. ⌜ r ≡ readInto h (now (file .entry)) rec count (now (buf .entry)) ⌝ }
+    ensures { λ r. ⌜ r ≡ readNextInto h (now (file .entry)) rec count (now (buf .entry)) ⌝ }
 {
     let a = h.read(file, rec, count, buf);
     let sum = digest::bytes(buf);
@@ -496,7 +501,7 @@ pub fn slot_of(body: &[u8]) -> usize
     ensures { λ r. ⌜ (r ≡ slotOf (now (body .entry))) × (r < 4) ⌝ }
 {
     let n = fields::number(body, 0);
-    (n % 4) as usize
+    (n % SLOT_COUNT) as usize
 }
 
 // The file that a record names: its first number in the records of a file, else its second.
@@ -505,10 +510,10 @@ pub fn file_of(tag: u8, body: &[u8]) -> usize
 {
     if tag < FORGED {
         let n = fields::number(body, 0);
-        return (n % 2) as usize;
+        return (n % FILE_COUNT) as usize;
     }
     let n = fields::number(body, 1);
-    (n % 2) as usize
+    (n % FILE_COUNT) as usize
 }
 
 // The record of a call on a file, tags 39 and above.

@@ -18,7 +18,7 @@ const LONGEST_FILE: usize = 65536;
 
 const LONGEST_RECORD: usize = 65538;
 
-// The numbers of a line, and how many bytes one takes at most, with what follows it.
+// A line has 18 numbers of at most 20 digits, each with a space or the line's end after it.
 const NUMBERS: usize = 18;
 
 const DIGITS: usize = 20;
@@ -32,6 +32,7 @@ struct Driver {
     lengths: [u64; 2],
 }
 
+// A byte as an index, and that it is below 256.
 fn wide(x: u8) -> usize
     ensures { λ r. ⌜ r < 256 ⌝ }
 {
@@ -73,6 +74,7 @@ fn put_number(text: &mut [u8], at: usize, n: u64) -> usize
     ensures { λ r. ⌜ (at + 1 ≤ r) × (r ≤ at + 21) ⌝ }
 {
     let mut digits = [0u8; DIGITS];
+    // No number has more digits, so the cap changes nothing.
     let k = decode::capped(io::decimal(n, &mut digits) as u64, DIGITS as u64);
     let mut i = 0;
     while i < k {
