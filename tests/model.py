@@ -287,6 +287,7 @@ class Rules:
 
 SLOTS, FILES = 4, 2
 LONGEST_LIST, LONGEST_BUFFER, LONGEST_FILE = 300, 4096, 65536
+MOST_RECORDS = 1_000_000
 CHECKSUM_MODULUS = 4_294_967_291
 CALLS = range(35, 43)
 
@@ -467,16 +468,16 @@ class Driver:
         return Step(place, tag, body, answer, self.line(tag, answer, lent))
 
     def steps(self, script):
-        """A Step for each record, and a Stop if the run does not reach the script's end."""
-        place = 0
-        while place < len(script):
+        """A Step for each record that is taken, and a Stop at one that is cut short or of another tag."""
+        place = taken = 0
+        while place < len(script) and taken < MOST_RECORDS:
             tag = script[place]
             if is_cut(script, place) or tag not in self.records:
                 yield Stop(place)
                 return
             following = place + 3 + int.from_bytes(script[place + 1:place + 3], "little")
             yield self.step(place, tag, Body(script[place + 3:following]))
-            place = following
+            place, taken = following, taken + 1
 
 
 def run(script, rules=Rules):
