@@ -24,6 +24,8 @@ use Rattle.accept.specs.Answers.{acceptAnswer, AcceptedAs}
 use Rattle.accept.specs.declared.Accepted.{Accepted}
 use Rattle.file.specs.declared.Handle.{Handle}
 use Rattle.file.specs.declared.FileRecord.{FileRecord}
+use Rattle.file.specs.declared.Opened.{Opened}
+use Rattle.file.specs.Parts.{openedAs}
 use Rattle.file.specs.Handles.{viewOf, freshHandle, modeGot, handleKept, fileKept, withView}
 use Rattle.file.specs.Refusals.{openRefusal, setViewRefusal, placeRefusal, endRefusal}
 use Rattle.file.proofs.Checking.{judged-view, judged-file-view, judged-size}
@@ -37,9 +39,9 @@ module _ (h : Handle) (representation : List ℕ) (v : PaperView) where
   set-refused n e z = let g = granted-no (setViewRefusal h representation v) (withView h (hold v)) h (λ q. z (e ∙ q)) in λ i. record { refusal = e i; count = 0; handle = sym g i }
 
   module _ (t : Bool) (k : t ≡ handleKept h) where
-    pub set-handle : not t ≡ true → record { refusal = 1; count = 0; handle = h } ≡ setViewAnswer h representation v
+    pub set-handle : not t ≡ true → (m : Opened) → m ≡ openedAs 1 h → m ≡ setViewAnswer h representation v
     unfolding setViewRefusal
-    set-handle n = set-refused 1 (check-no _ 1 _ 1 (unflag-false t _ k n) refl) (λ q. omega arith)
+    set-handle n m q = q ∙ set-refused 1 (check-no _ 1 _ 1 (unflag-false t _ k n) refl) (λ q. omega arith)
 
     module _ (n : not t ≡ false) (made : Accepted) (a : AcceptedAs (h .mode) representation v made) where
       is-set : made .refusal ≡ setViewRefusal h representation v
@@ -62,11 +64,11 @@ module _ (h : Handle) (representation : List ℕ) (d : ℤ) (ew : List ℕ) (ed 
   lent-is : AcceptedAs (h .mode) representation (lentView d (lentType ew ed ex) (lentType fw fd fx)) made
   lent-is = rw (toZ-ofZ sd, toZ-ofZ sx, toZ-ofZ sf) at a
 
-  pub set-refuses : (made .refusal ≡ 0 → ⊥) → record { refusal = made .refusal; count = 0; handle = h } ≡ setViewAnswer h representation (lentView d (lentType ew ed ex) (lentType fw fd fx))
-  set-refuses z = set-rules h representation _ t k n made lent-is z
+  pub set-refuses : (made .refusal ≡ 0 → ⊥) → (m : Opened) → m ≡ openedAs (made .refusal) h → m ≡ setViewAnswer h representation (lentView d (lentType ew ed ex) (lentType fw fd fx))
+  set-refuses z m q = q ∙ set-rules h representation _ t k n made lent-is z
 
-  pub set-grants : made .refusal ≡ 0 → record { refusal = 0; count = 0; handle = record { mode = h .mode; pointer = 0; view = made .view } } ≡ setViewAnswer h representation (lentView d (lentType ew ed ex) (lentType fw fd fx))
-  set-grants z = set-done h representation _ t k n made lent-is z
+  pub set-grants : made .refusal ≡ 0 → (m : Opened) → m ≡ openedAs 0 (record { mode = h .mode; pointer = 0; view = made .view }) → m ≡ setViewAnswer h representation (lentView d (lentType ew ed ex) (lentType fw fd fx))
+  set-grants z m q = q ∙ set-done h representation _ t k n made lent-is z
 
 -- ---- place
 
@@ -98,12 +100,12 @@ module _ (h : Handle) (len : ℕ) (r : FileRecord) (t : Bool) (k : t ≡ fileKep
 -- ---- open
 
 module _ (mode : ℕ) where
-  pub open-refused : 3 < mode → (h : Handle) → h ≡ freshHandle 0 → record { refusal = 16; count = 0; handle = h } ≡ openAnswer mode
+  pub open-refused : 3 < mode → (h : Handle) → h ≡ freshHandle 0 → (m : Opened) → m ≡ openedAs 16 h → m ≡ openAnswer mode
   unfolding openAnswer openRefusal check granted
-  open-refused l h e = rw (lt-leb mode 3 l) (λ i. record { refusal = 16; count = 0; handle = e i })
+  open-refused l h e m q = q ∙ rw (lt-leb mode 3 l) (λ i. record { refusal = 16; count = 0; handle = e i })
 
-  pub open-done : mode ≤ 3 → (got : ℕ) → got ≡ modeGot mode → (h : Handle) → h ≡ freshHandle got → record { refusal = 0; count = 0; handle = h } ≡ openAnswer mode
+  pub open-done : mode ≤ 3 → (got : ℕ) → got ≡ modeGot mode → (h : Handle) → h ≡ freshHandle got → (m : Opened) → m ≡ openedAs 0 h → m ≡ openAnswer mode
   unfolding openAnswer openRefusal check granted
-  open-done l got g h e = rw (le-leb mode 3 l) (λ i. record { refusal = 0; count = 0; handle = (e ∙ ap freshHandle g) i })
+  open-done l got g h e m q = q ∙ rw (le-leb mode 3 l) (λ i. record { refusal = 0; count = 0; handle = (e ∙ ap freshHandle g) i })
 
 pub ruleset answering = (needs, unflag-true, set-handle, set-refuses, set-grants, judged-view, place-handle, place-range, place-done, judged-file-view, judged-size, end-handle, end-done, open-refused, open-done)

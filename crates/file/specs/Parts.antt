@@ -7,8 +7,13 @@ use Rattle.view.specs.End.{endOfFile}
 use Rattle.view.specs.Limits.{pointerAllowed}
 use Rattle.file.specs.declared.Handle.{Handle}
 use Rattle.file.specs.declared.FileRecord.{FileRecord}
+use Rattle.file.specs.declared.Opened.{Opened}
 use Rattle.file.specs.declared.Moved.{Moved}
 use Rattle.file.specs.Handles.{viewOf}
+
+-- the answer of an open or a set
+abbrev pub openedAs : ℕ → Handle → Opened
+openedAs n h = record { refusal = n; count = 0; handle = h }
 
 -- a refused call that was given a file
 abbrev pub refusedMove : ℕ → Handle → FileRecord → Moved

@@ -13,7 +13,7 @@ ghost use Rattle.lent.specs.Lists.{lentType, lentView};
 ghost use Rattle.file.specs.Handles.{freshHandle, modeGot, handleKept, fileKept};
 ghost use Rattle.file.specs.Refusals.{giveBackRefusal, readRefusal};
 ghost use Rattle.file.specs.Answers.{openAnswer, setViewAnswer, GaveBack, placeAnswer, endAnswer, seekAnswer, ReadAt, ReadNext};
-ghost use Rattle.file.specs.Parts.{refusedMove, seekBase, startOf};
+ghost use Rattle.file.specs.Parts.{openedAs, refusedMove, seekBase, startOf};
 use view::BytePos;
 use view::Offset;
 use view::Owner;
@@ -131,6 +131,17 @@ pub struct Moved {
     pub file: FileRecord,
 }
 
+// The answer of an open or a set.
+fn answered(refusal: u64, handle: Handle) -> Opened
+    ensures { λ r. ⌜ r ≡ openedAs refusal handle ⌝ }
+{
+    Opened {
+        refusal: refusal,
+        count: 0,
+        handle: handle,
+    }
+}
+
 // A refused call that was given a file: handle and record come back as they came.
 fn refused(refusal: u64, handle: Handle, rec: FileRecord) -> Moved
     ensures { λ r. ⌜ r ≡ refusedMove refusal handle rec ⌝ }
@@ -220,19 +231,9 @@ impl Handle {
         ensures { λ r. ⌜ r ≡ openAnswer mode ⌝ }
     {
         if Handle::MODE_BOTH < mode {
-            let none = Handle::fresh(0);
-            return Opened {
-                refusal: Handle::REFUSED_OPEN,
-                count: 0,
-                handle: none,
-            };
+            return answered(Handle::REFUSED_OPEN, Handle::fresh(0));
         }
-        let handle = Handle::fresh(mode_got(mode));
-        Opened {
-            refusal: 0,
-            count: 0,
-            handle: handle,
-        }
+        answered(0, Handle::fresh(mode_got(mode)))
     }
 
     // Sets the view that the lent lists describe, and the pointer to 0.
@@ -250,11 +251,7 @@ impl Handle {
         ensures { λ r. ⌜ r ≡ setViewAnswer self (now (representation .entry)) (lentView displacement (lentType (now (ew .entry)) (now (ed .entry)) ex) (lentType (now (fw .entry)) (now (fd .entry)) fx)) ⌝ }
     {
         if !self.kept() {
-            return Opened {
-                refusal: Handle::REFUSED_HANDLE,
-                count: 0,
-                handle: self,
-            };
+            return answered(Handle::REFUSED_HANDLE, self);
         }
         let made = accept::accept(
             self.mode,
@@ -268,20 +265,12 @@ impl Handle {
             fx,
         );
         if made.refusal != 0 {
-            return Opened {
-                refusal: made.refusal,
-                count: 0,
-                handle: self,
-            };
+            return answered(made.refusal, self);
         }
         let view = made.view;
         self.view = view;
         self.pointer = 0;
-        Opened {
-            refusal: 0,
-            count: 0,
-            handle: self,
-        }
+        answered(0, self)
     }
 
     // Checks 1 and 13 of giving back, by the lengths of the four lists.

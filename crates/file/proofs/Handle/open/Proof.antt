@@ -1,4 +1,3 @@
--- `open` refuses modes above 3, and else gives a fresh handle of the mode got. Assumes nothing.
 use Rattle.file.proofs.Answering.{answering}
 use borrow.Author.Needs.{needs}
 use Rattle.file.proofs.Handle.open.Statement.{statement}
@@ -6,6 +5,9 @@ use Rattle.file.proofs.Handle.open.Tie as tie
 
 fresh-requires : tie.Need-fresh-requires
 fresh-requires c κs = search needs
+
+answered-requires : tie.Need-answered-requires
+answered-requires c κs = search needs
 
 returns : tie.Need-returns
 returns c = search answering
@@ -16,9 +18,20 @@ mode-got-requires c κs = search needs
 fresh-requires-2 : tie.Need-fresh-requires-2
 fresh-requires-2 c κs = search needs
 
+answered-requires-2 : tie.Need-answered-requires-2
+answered-requires-2 c κs = search needs
+
 returns-2 : tie.Need-returns-2
 returns-2 c = search answering
 
 pub open-spec : {M : Type 1} → statement M
 open-spec =
-    tie.close (tie.spec fresh-requires returns mode-got-requires fresh-requires-2 returns-2)
+    tie.close
+    (tie.spec
+    fresh-requires
+    answered-requires
+    returns
+    mode-got-requires
+    fresh-requires-2
+    answered-requires-2
+    returns-2)
