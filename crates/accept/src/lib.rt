@@ -1,5 +1,4 @@
 // From lent lists to an accepted view, or to the refusal number that document 01 gives them: checks 2 to 10 in its order.
-ghost use mathlib.Core.Bool.{true};
 ghost use mathlib.Core.Path.{_≡_};
 ghost use Prim.Native.Nat.{_≤_, _<_, _/_};
 ghost use lib.ListN.{length};

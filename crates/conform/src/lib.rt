@@ -1,6 +1,6 @@
 // What the conformance driver does with one record of a script (docs/conformance.md): it reads the body, makes the call, and has the numbers of the line.
 ghost use mathlib.Core.Path.{_≡_};
-ghost use Prim.Native.Nat.{_+_, _*_, _≤_, _<_};
+ghost use Prim.Native.Nat.{_*_, _≤_, _<_};
 ghost use lib.ListN.{length, drop};
 ghost use Rattle.laws.specs.Lists.{tabulate};
 ghost use Rattle.fields.specs.Fields.{numberAt};

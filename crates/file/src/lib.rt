@@ -1,10 +1,8 @@
 // The file handle and its calls: open, setting and giving back a view, place, end of file, seek, and reading at an explicit offset or at the pointer.
 // A call takes the handle by value and hands it back with the answer; a file is a lent run of bytes with a record by value.
 // What each call answers, and what it leaves in everything lent, is defined in specs/.
-ghost use mathlib.Core.Bool.{true};
 ghost use mathlib.Core.Path.{_≡_};
 ghost use Prim.Native.Nat.{_≤_};
-ghost use lib.IntN.{pos};
 ghost use lib.ListN.{length};
 ghost use Rattle.view.specs.Limits.{maxFileLength};
 ghost use Rattle.view.specs.Types.{paper};
@@ -154,6 +152,7 @@ fn refused(refusal: u64, handle: Handle, rec: FileRecord) -> Moved
     }
 }
 
+// Entry count and extent of a type, as giving back answers them.
 fn shape(entries: u64, extent: u64) -> TypeShape
     ensures { λ r. ⌜ (r .entries ≡ entries) × (r .extent ≡ extent) ⌝ }
 {
@@ -174,6 +173,7 @@ fn mode_got(mode: u64) -> u64
     }
 }
 
+// Whether a mode allows reading.
 fn allows_reading(mode: u64) -> bool
     ensures { λ r. ⌜ r ≡ allowsReading mode ⌝ }
 {
@@ -236,7 +236,7 @@ impl Handle {
         answered(0, Handle::fresh(mode_got(mode)))
     }
 
-    // Sets the view that the lent lists describe, and the pointer to 0.
+    // Sets the view that the lent lists describe, and the pointer to 0: widths, displacements and extent of the etype (ew, ed, ex) and of the filetype (fw, fd, fx).
     pub fn set_view(
         mut self,
         representation: &[u8],

@@ -2,7 +2,6 @@
 // The parts are tested on the record, at a cost that grows with the etype's entries plus the instances.
 ghost use mathlib.Core.Bool.{true};
 ghost use mathlib.Core.Path.{_≡_};
-ghost use Prim.Native.Nat.{_<_, _-_};
 ghost use Rattle.view.specs.Types.{paper};
 ghost use Rattle.view.specs.Rules.{accepted};
 ghost use Rattle.held.specs.Parts.{etypeHeld, filetypeHeld, apartHeld, ShapeKept};
