@@ -1,9 +1,12 @@
 // Document 01's claims about two calls, each as a function that makes both and whose contract is the claim, for all inputs.
 ghost use Rattle.lent.specs.Lists.{lentType, lentView};
 ghost use Rattle.claims.specs.Given.{GivenAsSet};
+use file::FileRecord;
 use file::Handle;
+use file::Moved;
 use file::Opened;
 use file::ViewGiven;
+use view::Offset;
 
 pub struct SetAndGiven {
     pub set: Opened,
@@ -35,4 +38,28 @@ pub fn set_then_give_back(
         set: set,
         given: given,
     }
+}
+
+// Where a write begins: at the pointer, or at an explicit offset.
+pub enum Begin {
+    Pointer,
+    Explicit(Offset),
+}
+
+// A write as it is asked for, but for the file's bytes and the buffer.
+pub struct Write {
+    pub handle: Handle,
+    pub file: FileRecord,
+    pub begin: Begin,
+    pub count: u64,
+}
+
+pub struct TwoWritten {
+    pub first: Moved,
+    pub second: Moved,
+}
+
+pub struct WrittenRead {
+    pub written: Moved,
+    pub read: Moved,
 }

@@ -31,10 +31,10 @@ use Rattle.mover.proofs.Etypes.{entries-kept, data-is, data-small}
 use Rattle.file.specs.declared.Handle.{Handle}
 use Rattle.file.specs.declared.FileRecord.{FileRecord}
 use Rattle.file.specs.declared.Moved.{Moved}
-use Rattle.file.specs.Handles.{viewOf, fileKept, withPointer}
+use Rattle.file.specs.Handles.{viewOf, fileKept, startOf, withPointer}
 use Rattle.file.specs.Refusals.{accessRefusal, readRefusal}
 use Rattle.file.specs.Answers.{readCount, readAtAnswer, readBuffer, readAnswer, ReadAt, ReadNext}
-use Rattle.file.specs.Parts.{refusedMove, startOf}
+use Rattle.file.specs.Parts.{refusedMove}
 use Rattle.file.proofs.Checking.{judged-file-view, file-kept-view, file-short, file-limit, pointer-high}
 
 -- ---- the refusals

@@ -144,3 +144,12 @@ unfoldable pub writeAnswer : Handle → ℕ → FileRecord → ℕ → ℕ → M
 writeAnswer h len r c buffer =
     let a = writeAtAnswer h len r (pos (h .pointer)) c buffer in
     record { refusal = a .refusal; count = a .count; handle = granted (a .refusal) (withPointer h (h .pointer + a .count)) h; file = a .file }
+
+-- the whole of each: the answer, and the file's bytes after it
+pub record WriteAt (h : Handle) (before after : List ℕ) (r : FileRecord) (o : ℤ) (c : ℕ) (buffer : List ℕ) (a : Moved) : Type 0 where
+  pub answer : a ≡ writeAtAnswer h (length before) r o c (length buffer)
+  pub bytes : after ≡ writtenFile h before r o c buffer
+
+pub record WriteNext (h : Handle) (before after : List ℕ) (r : FileRecord) (c : ℕ) (buffer : List ℕ) (a : Moved) : Type 0 where
+  pub answer : a ≡ writeAnswer h (length before) r c (length buffer)
+  pub bytes : after ≡ writtenFile h before r (pos (h .pointer)) c buffer

@@ -2,6 +2,7 @@
 use Prim.Native.Nat.{ℕ}
 use mathlib.Core.Bool.{Bool, cond}
 use lib.Dec.{eqb}
+use lib.IntN.{ℤ, pos}
 use Rattle.laws.specs.Checks.{also}
 use Rattle.view.specs.declared.View.{View}
 use Rattle.view.specs.Limits.{pointerAllowed, fileAllowed}
@@ -29,6 +30,10 @@ handleKept h = also (modeAllowed (h .mode)) (also (pointerAllowed (h .pointer)) 
 -- check 1 where it is: nor does the file, of this length, break its limits
 unfoldable pub fileKept : Handle → ℕ → FileRecord → Bool
 fileKept h len r = also (handleKept h) (fileAllowed len (r .size))
+
+-- the offset at which a pointer access begins; 0 for a pointer that check 1 refuses
+unfoldable pub startOf : Handle → ℤ
+startOf h = cond (pointerAllowed (h .pointer)) (pos (h .pointer)) (pos 0)
 
 -- the handle with another pointer, and the one after a successful set: the new view, pointer 0
 unfoldable pub withPointer : Handle → ℕ → Handle

@@ -2,9 +2,7 @@
 use Prim.Native.Nat.{ℕ}
 use mathlib.Core.Bool.{cond}
 use lib.Dec.{eqb}
-use lib.IntN.{ℤ, pos}
 use Rattle.view.specs.End.{endOfFile}
-use Rattle.view.specs.Limits.{pointerAllowed}
 use Rattle.file.specs.declared.Handle.{Handle}
 use Rattle.file.specs.declared.FileRecord.{FileRecord}
 use Rattle.file.specs.declared.Opened.{Opened}
@@ -22,7 +20,3 @@ refusedMove n h r = record { refusal = n; count = 0; handle = h; file = r }
 -- what a seek adds its offset to: nothing, the pointer or the end of file
 unfoldable pub seekBase : Handle → FileRecord → ℕ → ℕ
 seekBase h r whence = cond (eqb whence 0) 0 (cond (eqb whence 1) (h .pointer) (endOfFile (viewOf h) (r .size)))
-
--- the offset at which a pointer access begins; 0 for a pointer that check 1 refuses
-unfoldable pub startOf : Handle → ℤ
-startOf h = cond (pointerAllowed (h .pointer)) (pos (h .pointer)) (pos 0)

@@ -8,10 +8,10 @@ ghost use Rattle.view.specs.Limits.{maxFileLength};
 ghost use Rattle.view.specs.Types.{paper};
 ghost use Rattle.view.specs.Rules.{allowsReading, Kept};
 ghost use Rattle.lent.specs.Lists.{lentType, lentView};
-ghost use Rattle.file.specs.Handles.{freshHandle, modeGot, handleKept, fileKept};
+ghost use Rattle.file.specs.Handles.{freshHandle, modeGot, handleKept, fileKept, startOf};
 ghost use Rattle.file.specs.Refusals.{giveBackRefusal, readRefusal};
 ghost use Rattle.file.specs.Answers.{openAnswer, setViewAnswer, GaveBack, placeAnswer, endAnswer, seekAnswer, ReadAt, ReadNext};
-ghost use Rattle.file.specs.Parts.{openedAs, refusedMove, seekBase, startOf};
+ghost use Rattle.file.specs.Parts.{openedAs, refusedMove, seekBase};
 use view::BytePos;
 use view::Offset;
 use view::Owner;
@@ -481,8 +481,8 @@ impl Handle {
         }
     }
 
-    // The pointer as an offset; 0 for a pointer that check 1 refuses.
-    fn start(self) -> Offset
+    // The pointer as an offset; 0 for a pointer that check 1 refuses. For our own crates.
+    pub fn start(self) -> Offset
         ensures { λ r. ⌜ r .0 ≡ startOf self ⌝ }
     {
         if Handle::MAX_POINTER < self.pointer {

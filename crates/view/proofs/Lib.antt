@@ -6,3 +6,4 @@ pub mod Ends
 pub mod Owning
 pub mod Holding
 pub mod Signs
+pub mod Same

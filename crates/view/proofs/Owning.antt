@@ -16,7 +16,7 @@ use Rattle.view.specs.declared.Owner.the-variants.{Pair, Nobody}
 use Rattle.view.specs.Types.{PaperView, entries, widthAt, displacementAt, extentOf, whole}
 use Rattle.view.specs.Rules.{instances, accepted, allowsWriting}
 use Rattle.view.specs.Places.{place, packedBefore, dataSize, entryOf, dataAt, byteOf, Distinct, Narrow}
-use Rattle.view.specs.Owners.{Belongs, Answers, entryStart, offsetIn, indexIn, hits, hitEntry, ownerOf}
+use Rattle.view.specs.Owners.{Belongs, OneOwner, Answers, entryStart, offsetIn, indexIn, hits, hitEntry, ownerOf}
 use Rattle.view.proofs.Accepted.{Facts, facts, accepted-kept, instances-some}
 use Rattle.view.proofs.Packing.{entry-below, entry-ends, entry-begins, data-run, packed-part}
 use Rattle.view.proofs.Injective.{distinct, narrow}
@@ -156,6 +156,9 @@ one-answer v b d Nobody (Pair p k) a c = absurd (a (c .0) k (c .1 .1))
 one-answer v b d Nobody Nobody a c = refl
 
 -- ---- of a view that is accepted for writing
+
+pub one-owner : (mode : ℕ) (v : PaperView) → accepted mode v ≡ true → allowsWriting mode ≡ true → OneOwner v
+one-owner mode v h w = record { one = λ b x y j k p q. belongs-one v b x y j k (distinct mode v h w) p q }
 
 module _ (mode : ℕ) (v : PaperView) (h : accepted mode v ≡ true) (w : allowsWriting mode ≡ true) (b : ℕ) where
   pub owner-is : Answers v b (ownerOf v b)

@@ -4,3 +4,4 @@ pub mod Rules
 pub mod Places
 pub mod Owners
 pub mod End
+pub mod Same

@@ -19,6 +19,10 @@ pub record Belongs (v : PaperView) (b x j : ℕ) : Type 0 where
   pub index : j < dataSize v
   pub lies : byteOf v x j ≡ b
 
+-- each file byte belongs to at most one pair, whatever the byte
+pub record OneOwner (v : PaperView) : Type 0 where
+  pub one : (b x y j k : ℕ) → Belongs v b x j → Belongs v b y k → (x ≡ y) × (j ≡ k)
+
 -- what the reverse lookup is to answer for byte b: the pair that b belongs to, or none exactly if there is no such pair
 unfoldable pub Answers : PaperView → ℕ → Owner → Type 0
 Answers v b (Pair o j) = (x : ℕ) × ((o .0 ≡ pos x) × Belongs v b x j)
