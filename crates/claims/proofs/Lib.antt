@@ -1,1 +1,6 @@
 pub mod Giving
+pub mod Owners
+pub mod Granted
+pub mod Pairs
+pub mod Differing
+pub mod ReadingBack

@@ -1,15 +1,16 @@
 -- The data of one etype, entry by entry: no sum wraps, each entry lies inside, and the entries' runs make up the packed data.
 use Prim.Native.Nat.{ℕ, _+_, _-_, _*_, _^_, _≤_, _<_}
 use mathlib.Core.List.{List}
+use mathlib.Core.Logic.{_⊎_, inl, inr, ⊎-elim}
 use mathlib.Core.Path.{_≡_, refl, sym, ap, _∙_}
 use native.Mathlib.Nat.{mul-le-mul}
 use native.Mathlib.Omega.{arith}
 use borrow.Author.Needs.{needs}
 use lib.IntN.{pos}
-use lib.ListN.{length, getD}
+use lib.ListN.{length, getD, set, length-set}
 use mir.Syntax.{w64}
 use mir.Val.{Fits}
-use Rattle.laws.specs.Lists.{nth, store, front}
+use Rattle.laws.specs.Lists.{nth, store}
 use Rattle.laws.specs.Search.{total}
 use Rattle.laws.proofs.Stores.{store-none, store-more, store-end, length-tabulate, tabulate-at}
 use Rattle.laws.proofs.Runs.{store-run}
@@ -18,7 +19,7 @@ use Rattle.view.specs.Types.{entries, widthAt, displacementAt, whole}
 use Rattle.view.specs.Places.{packedBefore, dataAt}
 use Rattle.view.proofs.Packing.{data-run}
 use Rattle.rules.specs.Parts.{EntriesKept, entryEnd, reachOf}
-use Rattle.copier.specs.Parts.{onward, byteFrom, typeOf, sizeOf, placeIn, byteIn, Lies}
+use Rattle.copier.specs.Parts.{onward, byteFrom, always, typeOf, sizeOf, placeIn, byteIn, Lies}
 
 -- ---- a run of bytes
 
@@ -77,14 +78,14 @@ module _ (n : ℕ) (ws : List ℕ) where
 
 pub ruleset summing = (needs, summed-none, summed-more, summed-end, entry-held, entry-scaled, sum-fits)
 
--- ---- the data of an etype that begins at a
+-- ---- the data of an etype that begins at a, moved either way
 
--- the entries before entry i are copied
-pub record Copying (n : ℕ) (ws ds file : List ℕ) (a : ℕ) (part₀ part : List ℕ) (i packed : ℕ) : Type 0 where
-  pub lies : Lies n ws ds a (length file) (length part₀)
+-- value k of the packed data goes to place k of the target, and the entries before entry i are copied; the etype lies in a file of len bytes, its data in a buffer of `room`
+pub record Copying (n : ℕ) (ws ds : List ℕ) (a len room : ℕ) (place value : ℕ → ℕ) (target₀ target : List ℕ) (i packed : ℕ) : Type 0 where
+  pub lies : Lies n ws ds a len room
   pub sums : Summed ws n i packed
-  pub long : length part ≡ length part₀
-  pub done : part ≡ front (byteIn n ws ds file a) packed part₀
+  pub long : length target ≡ length target₀
+  pub done : target ≡ store place value packed target₀
 
 module _ (n : ℕ) (ws ds : List ℕ) where
   type-entries : entries (typeOf n ws ds) ≡ n
@@ -104,21 +105,21 @@ module _ (n : ℕ) (ws ds : List ℕ) where
   type-packed i h = total-same (widthAt (typeOf n ws ds)) (nth ws) i (λ j l. type-width j (omega arith))
 
   -- byte k of entry i lies where the entry does
-  entry-byte : (file : List ℕ) (a i k : ℕ) → i < n → k < nth ws i → byteFrom file (a + nth ds i) k ≡ byteIn n ws ds file a (total (nth ws) i + k)
-  unfolding byteFrom byteIn placeIn
-  entry-byte file a i k l w =
+  entry-place : (a i k : ℕ) → i < n → k < nth ws i → a + nth ds i + k ≡ placeIn n ws ds a (total (nth ws) i + k)
+  unfolding placeIn
+  entry-place a i k l w =
       let d = data-run (typeOf n ws ds) i k (omega (arith, type-entries)) (omega (arith, type-width i l)) in
       let p = type-packed i (omega arith) in
       let q : dataAt (typeOf n ws ds) (total (nth ws) i + k) ≡ nth ds i + k = ap (λ (z : ℕ). dataAt (typeOf n ws ds) (z + k)) (sym p) ∙ d ∙ ap (λ (z : ℕ). z + k) (type-displacement i l) in
-      ap (nth file) (omega (arith, q))
+      omega (arith, q)
 
-  module _ (file : List ℕ) (a : ℕ) (part₀ : List ℕ) where
-    pub copying-none : Lies n ws ds a (length file) (length part₀) → Copying n ws ds file a part₀ part₀ 0 0
-    copying-none h = record { lies = h; sums = summed-none n ws; long = refl; done = store-none (λ i. i) (byteIn n ws ds file a) part₀ }
+  module _ (a len room : ℕ) (place value : ℕ → ℕ) (target₀ : List ℕ) where
+    pub copying-none : Lies n ws ds a len room → Copying n ws ds a len room place value target₀ target₀ 0 0
+    copying-none h = record { lies = h; sums = summed-none n ws; long = refl; done = store-none place value target₀ }
 
-    module _ (part : List ℕ) (i packed : ℕ) (h : Copying n ws ds file a part₀ part i packed) where
-      pub copying-end : n ≤ i → part ≡ front (byteIn n ws ds file a) (sizeOf n ws) part₀
-      copying-end l = h .done ∙ ap (λ (z : ℕ). front (byteIn n ws ds file a) z part₀) (summed-end n ws i packed (h .sums) l)
+    module _ (target : List ℕ) (i packed : ℕ) (h : Copying n ws ds a len room place value target₀ target i packed) where
+      pub copying-end : n ≤ i → target ≡ store place value (sizeOf n ws) target₀
+      copying-end l = h .done ∙ ap (λ (z : ℕ). store place value z target₀) (summed-end n ws i packed (h .sums) l)
 
       module _ (l : i < n) where
         pub copying-held : i < 8
@@ -127,31 +128,93 @@ module _ (n : ℕ) (ws ds : List ℕ) where
         pub copying-scaled : Fits w64 (i * 8)
         copying-scaled = entry-scaled n ws ds (h .lies .kept) i l
 
-        entry-inside : a + (getD ds i 0 + getD ws i 0) ≤ length file
+        -- entry i lies in the file
+        pub file-inside : a + getD ds i 0 + getD ws i 0 ≤ len
         unfolding reachOf
-        entry-inside = omega (arith, h .lies .inside, greatest-above (entryEnd ws ds) n i l)
+        file-inside = omega (arith, h .lies .inside, greatest-above (entryEnd ws ds) n i l)
 
-        pub from-fits : length file < 2 ^ 64 → Fits w64 (a + getD ds i 0)
-        from-fits b = record { fits = omega (arith, entry-inside) }
+        pub file-fits : len < 2 ^ 64 → Fits w64 (a + getD ds i 0)
+        file-fits b = record { fits = omega (arith, file-inside) }
 
-        pub from-inside : a + getD ds i 0 + getD ws i 0 ≤ length file
-        from-inside = omega (arith, entry-inside)
-
-        pub packed-inside : packed + getD ws i 0 ≤ length part
+        -- its packed data lie in the buffer
+        pub packed-inside : packed + getD ws i 0 ≤ room
         unfolding sizeOf
-        packed-inside = omega (arith, h .lies .fits, h .sums .is, h .long, total-part (nth ws) i n l)
+        packed-inside = omega (arith, h .lies .fits, h .sums .is, total-part (nth ws) i n l)
 
-        pub packed-fits : length part₀ < 2 ^ 64 → Fits w64 (packed + getD ws i 0)
-        packed-fits b = record { fits = omega (arith, packed-inside, h .long) }
+        pub packed-fits : room < 2 ^ 64 → Fits w64 (packed + getD ws i 0)
+        packed-fits b = record { fits = omega (arith, packed-inside) }
 
-        pub copying-more : (part' : List ℕ) → length part' ≡ length part → part' ≡ store (onward packed) (byteFrom file (a + getD ds i 0)) (getD ws i 0) part → Copying n ws ds file a part₀ part' (i + 1) (packed + getD ws i 0)
-        unfolding onward
-        copying-more part' m e = record {
+        -- the entry's run continues the packed data
+        copying-run : (place' value' : ℕ → ℕ) (target' : List ℕ) → length target' ≡ length target → target' ≡ store place' value' (getD ws i 0) target → ((k : ℕ) → k < getD ws i 0 → place' k ≡ place (packed + k)) → ((k : ℕ) → k < getD ws i 0 → value' k ≡ value (packed + k)) → Copying n ws ds a len room place value target₀ target' (i + 1) (packed + getD ws i 0)
+        copying-run place' value' target' m e hp hv = record {
           lies = h .lies;
           sums = summed-more n ws i packed (h .sums) l;
           long = m ∙ h .long;
-          done = store-run (λ k. k) (byteIn n ws ds file a) (onward packed) (byteFrom file (a + getD ds i 0)) packed (getD ws i 0) part₀ part part' (h .done) e (λ k q. refl)
-              (λ k q. entry-byte file a i k l q ∙ ap (λ (z : ℕ). byteIn n ws ds file a (z + k)) (sym (h .sums .is)));
+          done = store-run place value place' value' packed (getD ws i 0) target₀ target target' (h .done) e hp hv;
         }
 
-pub ruleset copying = (needs, copying-none, copying-end, copying-held, copying-scaled, from-fits, from-inside, packed-inside, packed-fits, copying-more)
+        entry-at : (k : ℕ) → k < getD ws i 0 → a + getD ds i 0 + k ≡ placeIn n ws ds a (packed + k)
+        entry-at k q = entry-place a i k l q ∙ ap (λ (z : ℕ). placeIn n ws ds a (z + k)) (sym (h .sums .is))
+
+  -- out of the file, to the front of the part
+  module _ (file : List ℕ) (a : ℕ) (part₀ part : List ℕ) (i packed : ℕ) (h : Copying n ws ds a (length file) (length part₀) (λ k. k) (byteIn n ws ds file a) part₀ part i packed) (l : i < n) where
+    pub out-inside : packed + getD ws i 0 ≤ length part
+    out-inside = omega (arith, h .long, packed-inside a (length file) (length part₀) (λ k. k) (byteIn n ws ds file a) part₀ part i packed h l)
+
+    pub out-more : (part' : List ℕ) → length part' ≡ length part → part' ≡ store (onward packed) (byteFrom file (a + getD ds i 0)) (getD ws i 0) part → Copying n ws ds a (length file) (length part₀) (λ k. k) (byteIn n ws ds file a) part₀ part' (i + 1) (packed + getD ws i 0)
+    unfolding onward byteFrom byteIn
+    out-more part' m e = copying-run a (length file) (length part₀) (λ k. k) (byteIn n ws ds file a) part₀ part i packed h l (onward packed) (byteFrom file (a + getD ds i 0)) part' m e (λ k q. refl) (λ k q. ap (nth file) (entry-at a (length file) (length part₀) (λ k. k) (byteIn n ws ds file a) part₀ part i packed h l k q))
+
+  -- into the file, from the front of the part
+  module _ (part : List ℕ) (a : ℕ) (file₀ file : List ℕ) (i packed : ℕ) (h : Copying n ws ds a (length file₀) (length part) (placeIn n ws ds a) (nth part) file₀ file i packed) (l : i < n) where
+    pub in-inside : a + getD ds i 0 + getD ws i 0 ≤ length file
+    in-inside = omega (arith, h .long, file-inside a (length file₀) (length part) (placeIn n ws ds a) (nth part) file₀ file i packed h l)
+
+    pub in-more : (file' : List ℕ) → length file' ≡ length file → file' ≡ store (onward (a + getD ds i 0)) (byteFrom part packed) (getD ws i 0) file → Copying n ws ds a (length file₀) (length part) (placeIn n ws ds a) (nth part) file₀ file' (i + 1) (packed + getD ws i 0)
+    unfolding onward byteFrom
+    in-more file' m e = copying-run a (length file₀) (length part) (placeIn n ws ds a) (nth part) file₀ file i packed h l (onward (a + getD ds i 0)) (byteFrom part packed) file' m e (λ k q. entry-at a (length file₀) (length part) (placeIn n ws ds a) (nth part) file₀ file i packed h l k q) (λ k q. refl)
+
+pub ruleset copying = (needs, copying-none, copying-end, copying-held, copying-scaled, file-inside, file-fits, packed-inside, packed-fits, out-inside, out-more, in-inside, in-more)
+
+-- ---- one value in a run of places
+
+-- the places before `at` are filled
+pub record Filling (from to x at : ℕ) (file₀ file : List ℕ) : Type 0 where
+  pub begun : from ≤ at
+  pub reached : (at ≤ to) ⊎ (at ≡ from)
+  pub long : length file ≡ length file₀
+  pub done : file ≡ store (onward from) (always x) (at - from) file₀
+
+module _ (from to x : ℕ) (file₀ : List ℕ) where
+  pub filling-none : Filling from to x from file₀ file₀
+  filling-none = record {
+    begun = omega arith;
+    reached = inr refl;
+    long = refl;
+    done = let e : from - from ≡ 0 = omega arith in rw e (store-none (onward from) (always x) file₀);
+  }
+
+  module _ (at : ℕ) (file : List ℕ) (h : Filling from to x at file₀ file) where
+    pub filling-end : to ≤ at → file ≡ store (onward from) (always x) (to - from) file₀
+    filling-end l = let e : at - from ≡ to - from = ⊎-elim (λ q. omega arith) (λ q. omega arith) (h .reached) in h .done ∙ ap (λ (z : ℕ). store (onward from) (always x) z file₀) e
+
+    module _ (l : at < to) (b : to ≤ length file₀) where
+      pub filling-inside : at < length file
+      filling-inside = omega (arith, h .long)
+
+      pub filling-fits : length file₀ < 2 ^ 64 → Fits w64 (at + 1)
+      filling-fits q = record { fits = omega arith }
+
+      pub filling-more : Filling from to x (at + 1) file₀ (set file at x)
+      unfolding onward always
+      filling-more =
+          let e : at + 1 - from ≡ at - from + 1 = omega (arith, h .begun) in
+          let p : at ≡ from + (at - from) = omega (arith, h .begun) in
+          record {
+            begun = omega (arith, h .begun);
+            reached = inl (omega arith);
+            long = length-set file at x ∙ h .long;
+            done = rw e (store-more (onward from) (always x) (at - from) at x file₀ file (h .done) p refl);
+          }
+
+pub ruleset filling = (needs, filling-none, filling-end, filling-inside, filling-fits, filling-more)

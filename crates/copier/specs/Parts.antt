@@ -16,6 +16,10 @@ onward a k = a + k
 unfoldable pub byteFrom : List ℕ → ℕ → ℕ → ℕ
 byteFrom l a k = nth l (a + k)
 
+-- one value for each place
+unfoldable pub always : ℕ → ℕ → ℕ
+always x k = x
+
 -- n entries of widths ws and displacements ds, as a type; its extent plays no part in where its data lie
 unfoldable pub typeOf : ℕ → List ℕ → List ℕ → PaperType
 typeOf n ws ds = record { widths = tabulate (nth ws) n; displacements = tabulate (λ i. pos (nth ds i)) n; extent = pos 0 }

@@ -1,10 +1,10 @@
 // Copying the data of one etype. These functions are pub for our own crates: the movers meet what is required here.
 ghost use mathlib.Core.Path.{_≡_};
-ghost use Prim.Native.Nat.{_+_, _≤_};
+ghost use Prim.Native.Nat.{_+_, _-_, _≤_};
 ghost use lib.ListN.{length};
-ghost use Rattle.laws.specs.Lists.{store, front};
+ghost use Rattle.laws.specs.Lists.{nth, store, front};
 ghost use Rattle.rules.specs.Parts.{EntriesKept};
-ghost use Rattle.copier.specs.Parts.{onward, byteFrom, sizeOf, byteIn, Lies};
+ghost use Rattle.copier.specs.Parts.{onward, byteFrom, always, sizeOf, placeIn, byteIn, Lies};
 use view::BytePos;
 use view::Etype;
 
@@ -54,5 +54,37 @@ pub fn copy_out(e: Etype, file: &[u8], at: BytePos, part: &mut [u8])
         copy_run(file, from, part, packed, width);
         packed += width;
         i += 1;
+    }
+}
+
+// Copies the front of `part` into the file as the packed data of the etype that begins at `at`.
+pub fn copy_in(e: Etype, part: &[u8], file: &mut [u8], at: BytePos)
+    requires { ⌜ Lies (e .entries) (e .widths) (e .displacements) (at .0) (length (now file)) (length (now part)) ⌝ }
+    ensures { λ r. ⌜ now (file .exit) ≡ store (placeIn (e .entries) (e .widths) (e .displacements) (at .0)) (nth (now (part .entry))) (sizeOf (e .entries) (e .widths)) (now (file .entry)) ⌝ }
+{
+    let n = e.entries as usize;
+    let widths = e.widths;
+    let displacements = e.displacements;
+    let begin = at.0;
+    let mut packed = 0;
+    let mut i = 0;
+    while i < n {
+        let width = widths[i] as usize;
+        let to = (begin + displacements[i]) as usize;
+        copy_run(part, packed, file, to, width);
+        packed += width;
+        i += 1;
+    }
+}
+
+// Puts `value` at each place of the file from `from` on, up to `to`.
+pub fn fill(file: &mut [u8], from: usize, to: usize, value: u8)
+    requires { ⌜ to ≤ length (now file) ⌝ }
+    ensures { λ r. ⌜ now (file .exit) ≡ store (onward from) (always value) (to - from) (now (file .entry)) ⌝ }
+{
+    let mut at = from;
+    while at < to {
+        file[at] = value;
+        at += 1;
     }
 }

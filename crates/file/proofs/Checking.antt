@@ -42,7 +42,7 @@ module _ (h : Handle) where
   view-judged t e a b p = also-yes _ _ t (within-yes 1 3 (h .mode) a b) (also-yes _ _ t (le-leb (h .pointer) 4294967296 p) e)
 
   module _ (k : handleKept h ≡ true) where
-    accepts : accepted (h .mode) (paper (h .view)) ≡ true
+    pub accepts : accepted (h .mode) (paper (h .view)) ≡ true
     unfolding handleKept viewOf
     accepts = also-inv _ _ (also-inv _ _ k .1) .1
 

@@ -1,5 +1,7 @@
 pub mod Checking
 pub mod Answering
 pub mod Seeking
+pub mod Accessing
 pub mod Readable
+pub mod Writable
 pub mod Returning

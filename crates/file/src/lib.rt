@@ -1,4 +1,4 @@
-// The file handle and its calls: open, setting and giving back a view, place, end of file, seek, and reading at an explicit offset or at the pointer.
+// The file handle and its calls: open, setting and giving back a view, place, end of file, seek, and reading and writing at an explicit offset or at the pointer.
 // A call takes the handle by value and hands it back with the answer; a file is a lent run of bytes with a record by value.
 // What each call answers, and what it leaves in everything lent, is defined in specs/.
 ghost use mathlib.Core.Path.{_≡_};
@@ -9,9 +9,9 @@ ghost use Rattle.view.specs.Types.{paper};
 ghost use Rattle.view.specs.Rules.{allowsReading, Kept};
 ghost use Rattle.lent.specs.Lists.{lentType, lentView};
 ghost use Rattle.file.specs.Handles.{freshHandle, modeGot, handleKept, fileKept, startOf};
-ghost use Rattle.file.specs.Refusals.{giveBackRefusal, readRefusal};
-ghost use Rattle.file.specs.Answers.{openAnswer, setViewAnswer, GaveBack, placeAnswer, endAnswer, seekAnswer, ReadAt, ReadNext};
-ghost use Rattle.file.specs.Parts.{openedAs, refusedMove, seekBase};
+ghost use Rattle.file.specs.Refusals.{giveBackRefusal};
+ghost use Rattle.file.specs.Answers.{openAnswer, setViewAnswer, GaveBack, placeAnswer, endAnswer, seekAnswer, ReadAt, ReadNext, WriteAt, WriteNext};
+ghost use Rattle.file.specs.Parts.{openedAs, refusedMove, checkedAccess, WriteJudged, seekBase};
 use view::BytePos;
 use view::Offset;
 use view::Owner;
@@ -52,6 +52,8 @@ impl Handle {
     pub const REFUSED_RANGE: u64 = 12;
 
     pub const REFUSED_ROOM: u64 = 13;
+
+    pub const REFUSED_LENGTH: u64 = 14;
 
     pub const REFUSED_WHENCE: u64 = 15;
 
@@ -181,6 +183,21 @@ fn allows_reading(mode: u64) -> bool
         return true;
     }
     mode == Handle::MODE_BOTH
+}
+
+// The checks of a write: the refusal number, and where a granted one ends.
+struct Judgement {
+    refusal: u64,
+    end: u64,
+}
+
+fn judged(refusal: u64, end: u64) -> Judgement
+    ensures { λ r. ⌜ (r .refusal ≡ refusal) × (r .end ≡ end) ⌝ }
+{
+    Judgement {
+        refusal: refusal,
+        end: end,
+    }
 }
 
 impl Handle {
@@ -430,17 +447,24 @@ impl Handle {
         }
     }
 
-    // Checks 1, 11, 12 and 13 of a read, for a file of `len` bytes and a buffer of `room` bytes.
-    fn read_refusal(self, len: u64, rec: FileRecord, o: Offset, count: u64, room: u64) -> u64
-        ensures { λ r. ⌜ r ≡ readRefusal self len rec (o .0) count room ⌝ }
+    // Checks 1, 11, 12 and 13 of an access that the mode allows or not, for a file of `len` bytes and a buffer of `room` bytes.
+    fn access_refusal(
+        self,
+        allowed: bool,
+        len: u64,
+        rec: FileRecord,
+        o: Offset,
+        count: u64,
+        room: u64,
+    ) -> u64
+        ensures { λ r. ⌜ r ≡ checkedAccess allowed self len rec (o .0) count room ⌝ }
     {
         let kept = self.file_kept(len, rec);
-        let reads = allows_reading(self.mode);
         let ranged = ranges::access_allowed(o, count);
         if !kept {
             return Handle::REFUSED_HANDLE;
         }
-        if !reads {
+        if !allowed {
             return Handle::REFUSED_MODE;
         }
         if !ranged {
@@ -467,7 +491,15 @@ impl Handle {
     ) -> Moved
         ensures { λ r. ⌜ ReadAt self (now (file .entry)) rec (o .0) count (now (buf .entry)) (now (buf .exit)) r ⌝ }
     {
-        let refusal = self.read_refusal(file.len() as u64, rec, o, count, buf.len() as u64);
+        let allowed = allows_reading(self.mode);
+        let refusal = self.access_refusal(
+            allowed,
+            file.len() as u64,
+            rec,
+            o,
+            count,
+            buf.len() as u64,
+        );
         if refusal != 0 {
             return refused(refusal, self, rec);
         }
@@ -505,6 +537,67 @@ impl Handle {
             count: done.count,
             handle: self,
             file: rec,
+        }
+    }
+
+    // Checks 1, 11, 12, 13 and 14 of a write, and where it ends.
+    fn write_judged(self, len: u64, rec: FileRecord, o: Offset, count: u64, room: u64) -> Judgement
+        ensures { λ r. ⌜ WriteJudged self len rec (o .0) count room r ⌝ }
+    {
+        let allowed = rules::writes(self.mode);
+        let refusal = self.access_refusal(allowed, len, rec, o, count, room);
+        if refusal != 0 {
+            return judged(refusal, 0);
+        }
+        let view = self.view;
+        let end = writer::write_end(view, o, count);
+        if len < end {
+            return judged(Handle::REFUSED_LENGTH, 0);
+        }
+        judged(0, end)
+    }
+
+    // Writes `count` etypes of the buffer at offset `o`: the file grows to the end of the highest byte, and the gap gets zeros. The pointer stays.
+    pub fn write_at(
+        self,
+        file: &mut [u8],
+        rec: FileRecord,
+        o: Offset,
+        count: u64,
+        buf: &[u8],
+    ) -> Moved
+        ensures { λ r. ⌜ WriteAt self (now (file .entry)) (now (file .exit)) rec (o .0) count (now (buf .entry)) r ⌝ }
+    {
+        let judged = self.write_judged(file.len() as u64, rec, o, count, buf.len() as u64);
+        if judged.refusal != 0 {
+            return refused(judged.refusal, self, rec);
+        }
+        let view = self.view;
+        let mut after = rec;
+        after.size = writer::write(view, file, rec.size, o, count, judged.end, buf);
+        Moved {
+            refusal: 0,
+            count: count,
+            handle: self,
+            file: after,
+        }
+    }
+
+    // Writes `count` etypes of the buffer at the pointer and raises it by as many.
+    pub fn write(mut self, file: &mut [u8], rec: FileRecord, count: u64, buf: &[u8]) -> Moved
+        ensures { λ r. ⌜ WriteNext self (now (file .entry)) (now (file .exit)) rec count (now (buf .entry)) r ⌝ }
+    {
+        let done = self.write_at(file, rec, self.start(), count, buf);
+        if done.refusal != 0 {
+            return done;
+        }
+        self.pointer = self.pointer + done.count;
+        let after = done.file;
+        Moved {
+            refusal: 0,
+            count: done.count,
+            handle: self,
+            file: after,
         }
     }
 }

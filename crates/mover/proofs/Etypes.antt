@@ -76,14 +76,14 @@ module _ (v : View) (k : Kept (paper v)) where
       (g .0, (omega (arith, paper-entries v, g .1 .0), omega (arith, entry-end (g .0) (g .1 .0), g .1 .1)))
 
   -- each data byte lies before the reach
-  data-before : (j : ℕ) → j < dataSize (paper v) → dataAt (paper v .etype) j < reach v
+  pub data-before : (j : ℕ) → j < dataSize (paper v) → dataAt (paper v .etype) j < reach v
   unfolding dataAt dataSize
   data-before j l =
       let t = paper v .etype in
       omega (arith, entry-reached (entryOf t j) (entry-below t j l), entry-ends t j l, entry-begins t j l)
 
   -- and one lies just before it
-  data-last : (j : ℕ) × ((j < dataSize (paper v)) × (dataAt (paper v .etype) j + 1 ≡ reach v))
+  pub data-last : (j : ℕ) × ((j < dataSize (paper v)) × (dataAt (paper v .etype) j + 1 ≡ reach v))
   unfolding dataSize
   data-last =
       let t = paper v .etype in

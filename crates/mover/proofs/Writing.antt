@@ -53,13 +53,13 @@ file-byte-distinct v o i k d s e =
     cc (div-add-mod' i (dataSize v), div-add-mod' k (dataSize v), h .1)
 
 -- byte b of the file is byte `index` of the data
-record Found (v : PaperView) (o c b : ℕ) : Type 0 where
-  index : ℕ
-  below : index < c * dataSize v
-  lies : b ≡ fileByte v o index
+pub record Found (v : PaperView) (o c b : ℕ) : Type 0 where
+  pub index : ℕ
+  pub below : index < c * dataSize v
+  pub lies : b ≡ fileByte v o index
 
 -- a byte is one that the write maps, or one that it does not: a search through the data says which
-mapped-or-not : (v : PaperView) (o c b : ℕ) → Found v o c b ⊎ Unmapped v o c b
+pub mapped-or-not : (v : PaperView) (o c b : ℕ) → Found v o c b ⊎ Unmapped v o c b
 mapped-or-not v o c b = ⊎-elim found none (lt-or-le (first misses n) n)
   where
     n : ℕ
@@ -76,25 +76,27 @@ mapped-or-not v o c b = ⊎-elim found none (lt-or-le (first misses n) n)
 
 -- ---- the file after a write
 
--- two files that both are as a write leaves them agree at each byte
-module _ (v : PaperView) (size o c : ℕ) (buffer file a z : List ℕ) (g : IsWritten v size o c buffer file a) (h : IsWritten v size o c buffer file z) where
-  -- outside the gap, an unmapped byte is the old file's in both
+-- two files that writes of two buffers leave agree at each unmapped byte
+module _ (v : PaperView) (size o c : ℕ) (buffer buffer' file a z : List ℕ) (g : IsWritten v size o c buffer file a) (h : IsWritten v size o c buffer' file z) where
+  -- outside the gap, it is the old file's in both
   same-kept : (b : ℕ) → Unmapped v o c b → (b < size) ⊎ (newSize v size o c ≤ b) → nth a b ≡ nth z b
   same-kept b u q = g .rest b q u ∙ sym (h .rest b q u)
 
   -- in the gap it is 0 in both
-  same-unmapped : (b : ℕ) → Unmapped v o c b → nth a b ≡ nth z b
+  pub same-unmapped : (b : ℕ) → Unmapped v o c b → nth a b ≡ nth z b
   same-unmapped b u = ⊎-elim (λ l. same-kept b u (inl l)) past (lt-or-le b size)
     where
       past : size ≤ b → nth a b ≡ nth z b
       past l = ⊎-elim (λ q. g .gap b l q u ∙ sym (h .gap b l q u)) (λ q. same-kept b u (inr q)) (lt-or-le b (newSize v size o c))
 
+-- two that writes of one buffer leave agree at each byte
+module _ (v : PaperView) (size o c : ℕ) (buffer file a z : List ℕ) (g : IsWritten v size o c buffer file a) (h : IsWritten v size o c buffer file z) where
   -- a mapped byte is the buffer's in both
   same-mapped : (b : ℕ) → Found v o c b → nth a b ≡ nth z b
   same-mapped b f = rw (f .lies) (g .mapped (f .index) (f .below) ∙ sym (h .mapped (f .index) (f .below)))
 
   same-at : (b : ℕ) → nth a b ≡ nth z b
-  same-at b = ⊎-elim (same-mapped b) (same-unmapped b) (mapped-or-not v o c b)
+  same-at b = ⊎-elim (same-mapped b) (same-unmapped v size o c buffer buffer file a z g h b) (mapped-or-not v o c b)
 
   written-same : a ≡ z
   written-same = ext-getD 0 a z (g .long ∙ sym (h .long)) (λ b l. same-at b)

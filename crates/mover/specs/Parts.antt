@@ -11,13 +11,17 @@ use Rattle.view.specs.Rules.{Kept}
 use Rattle.view.specs.Places.{dataSize}
 use Rattle.mover.specs.Moves.{moved, readInto}
 
--- c etypes at o may be moved between a buffer of `buffer` bytes and a file of `len` bytes: what checks 1, 12 and 13 leave
-pub record Movable (v : View) (len size : ℕ) (o : ℤ) (c buffer : ℕ) : Type 0 where
+-- c etypes at o have places: what checks 1 and 12 leave
+pub record Ranged (v : View) (o : ℤ) (c : ℕ) : Type 0 where
   pub kept : Kept (paper v)
-  pub short : size ≤ len
-  pub limit : len ≤ maxFileLength
   pub offset : 0 < c → offsetAllowed o ≡ true
   pub last : whole o + c ≤ offsetCount
+
+-- they may be moved between a buffer of `buffer` bytes and a file of `len` bytes: what checks 1, 12 and 13 leave
+pub record Movable (v : View) (len size : ℕ) (o : ℤ) (c buffer : ℕ) : Type 0 where
+  pub ranged : Ranged v o c
+  pub short : size ≤ len
+  pub limit : len ≤ maxFileLength
   pub room : c * dataSize (paper v) ≤ buffer
 
 -- what a read of c etypes at o moves, and what it leaves in the buffer

@@ -1,11 +1,13 @@
 -- `copy_out` copies entry after entry; together they are the packed data. Assumes nothing.
 use Prim.Native.Nat.{_-_}
-use Rattle.copier.proofs.Copying.{Copying, copying}
+use lib.ListN.{length}
+use Rattle.copier.specs.Parts.{byteIn}
+use Rattle.copier.proofs.Copying.{Copying, file-inside, out-inside, copying}
 use Rattle.copier.proofs.copy_out.Statement.{statement}
 use Rattle.copier.proofs.copy_out.Tie as tie
 
 abbrev Inv-loop : tie.InvT-loop
-Inv-loop file part₀ n widths displacements begin packed₀ i₀ part packed i = Copying n widths displacements file begin part₀ part i packed
+Inv-loop file part₀ n widths displacements begin packed₀ i₀ part packed i = Copying n widths displacements begin (length file) (length part₀) (λ k. k) (byteIn n widths displacements file begin) part₀ part i packed
 
 abbrev μ-loop : tie.MeasureT-loop
 μ-loop file part₀ n widths displacements begin packed₀ i₀ part packed i = n - i
@@ -29,7 +31,7 @@ add-from : tie.Need-add-from Inv-loop μ-loop
 add-from c = search copying
 
 copy-run-requires : tie.Need-copy-run-requires Inv-loop μ-loop
-copy-run-requires c κs = search copying
+copy-run-requires c κs = (search file-inside, search out-inside)
 
 add-packed : tie.Need-add-packed Inv-loop μ-loop
 add-packed c = search copying

@@ -4,8 +4,11 @@ use borrow.Author.Needs.{needs}
 use Rattle.file.proofs.Handle.read_at.Statement.{statement}
 use Rattle.file.proofs.Handle.read_at.Tie as tie
 
-read-refusal-requires : tie.Need-read-refusal-requires
-read-refusal-requires c κs = search needs
+allows-reading-requires : tie.Need-allows-reading-requires
+allows-reading-requires c κs = search needs
+
+access-refusal-requires : tie.Need-access-refusal-requires
+access-refusal-requires c κs = search needs
 
 refused-requires : tie.Need-refused-requires
 refused-requires c κs = search needs
@@ -25,4 +28,4 @@ returns-2 c = search reading
 pub read-at-spec : {M : Type 1} → statement M
 read-at-spec =
     tie.close
-    (tie.spec read-refusal-requires refused-requires returns gather-requires same-length returns-2)
+    (tie.spec allows-reading-requires access-refusal-requires refused-requires returns gather-requires same-length returns-2)

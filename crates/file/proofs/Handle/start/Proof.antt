@@ -1,5 +1,5 @@
 -- `start` is the pointer as an offset, 0 for one that check 1 refuses. Assumes nothing.
-use Rattle.file.proofs.Readable.{starting}
+use Rattle.file.proofs.Accessing.{starting}
 use borrow.Author.Needs.{needs}
 use Rattle.file.proofs.Handle.start.Statement.{statement}
 use Rattle.file.proofs.Handle.start.Tie as tie

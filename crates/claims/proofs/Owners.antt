@@ -1,0 +1,45 @@
+-- A handle that passes check 1 and allows writing: each file byte belongs to at most one pair of its view, and a granted reverse lookup answers that pair, or none if there is none.
+-- Rests on the laws of the reverse lookup, of a view that is accepted for writing.
+use Prim.Native.Nat.{ℕ}
+use mathlib.Core.Bool.{true}
+use mathlib.Core.Path.{_≡_, sym, _∙_}
+use native.Mathlib.Omega.{arith}
+use Rattle.laws.proofs.Booleans.{check-inv, granted-yes}
+use Rattle.view.specs.declared.Owner.{Owner}
+use Rattle.view.specs.Rules.{accepted, allowsWriting}
+use Rattle.view.specs.Owners.{OneOwner, Answers, ownerOf}
+use Rattle.view.proofs.Owning.{one-owner, owner-is, owner-only}
+use Rattle.file.specs.declared.Handle.{Handle}
+use Rattle.file.specs.Handles.{viewOf, handleKept}
+use Rattle.file.specs.Refusals.{reverseRefusal}
+use Rattle.file.specs.Answers.{reverseAnswer}
+use Rattle.file.proofs.Checking.{accepts}
+
+module _ (h : Handle) (k : handleKept h ≡ true) where
+  pub handle-accepts : accepted (h .mode) (viewOf h) ≡ true
+  unfolding viewOf
+  handle-accepts = accepts h k
+
+  pub handle-owner : allowsWriting (h .mode) ≡ true → OneOwner (viewOf h)
+  handle-owner w = one-owner (h .mode) (viewOf h) handle-accepts w
+
+-- ---- a granted reverse lookup
+
+module _ (h : Handle) (z : reverseRefusal h ≡ 0) where
+  passed : (handleKept h ≡ true) × (allowsWriting (h .mode) ≡ true)
+  unfolding reverseRefusal
+  passed = let c = check-inv _ 1 _ (omega arith) z in (c .0, check-inv _ 11 _ (omega arith) (c .1) .0)
+
+  judged : accepted (h .mode) (viewOf h) ≡ true
+  judged = handle-accepts h (passed .0)
+
+  module _ (b : ℕ) where
+    owner-found : reverseAnswer h b .owner ≡ ownerOf (viewOf h) b
+    unfolding reverseAnswer
+    owner-found = granted-yes _ _ _ z
+
+    pub reverse-is : Answers (viewOf h) b (reverseAnswer h b .owner)
+    reverse-is = rw owner-found (owner-is (h .mode) (viewOf h) judged (passed .1) b)
+
+    pub reverse-only : (o : Owner) → Answers (viewOf h) b o → o ≡ reverseAnswer h b .owner
+    reverse-only o a = owner-only (h .mode) (viewOf h) judged (passed .1) b o a ∙ sym owner-found

@@ -1,0 +1,73 @@
+-- `copy_in` copies entry after entry; together they are the packed data, each at its place. Assumes nothing.
+use Prim.Native.Nat.{_-_}
+use lib.ListN.{length}
+use Rattle.laws.specs.Lists.{nth}
+use Rattle.copier.specs.Parts.{placeIn}
+use Rattle.copier.proofs.Copying.{Copying, packed-inside, in-inside, copying}
+use Rattle.copier.proofs.copy_in.Statement.{statement}
+use Rattle.copier.proofs.copy_in.Tie as tie
+
+abbrev Inv-loop : tie.InvT-loop
+Inv-loop part file₀ n widths displacements begin packed₀ i₀ file packed i = Copying n widths displacements begin (length file₀) (length part) (placeIn n widths displacements begin) (nth part) file₀ file i packed
+
+abbrev μ-loop : tie.MeasureT-loop
+μ-loop part file₀ n widths displacements begin packed₀ i₀ file packed i = n - i
+
+loop-holds : tie.Need-loop-holds Inv-loop μ-loop
+loop-holds c = search copying
+
+mul-width : tie.Need-mul-width Inv-loop μ-loop
+mul-width c = search copying
+
+array-read-width : tie.Need-array-read-width Inv-loop μ-loop
+array-read-width c = search copying
+
+mul-to : tie.Need-mul-to Inv-loop μ-loop
+mul-to c = search copying
+
+array-read-to : tie.Need-array-read-to Inv-loop μ-loop
+array-read-to c = search copying
+
+add-to : tie.Need-add-to Inv-loop μ-loop
+add-to c = search copying
+
+copy-run-requires : tie.Need-copy-run-requires Inv-loop μ-loop
+copy-run-requires c κs = (search packed-inside, search in-inside)
+
+add-packed : tie.Need-add-packed Inv-loop μ-loop
+add-packed c = search copying
+
+add-i : tie.Need-add-i Inv-loop μ-loop
+add-i c = search copying
+
+loop-less : tie.Need-loop-less Inv-loop μ-loop
+loop-less c = search copying
+
+loop-again : tie.Need-loop-again Inv-loop μ-loop
+loop-again c = search copying
+
+same-length : tie.Need-same-length Inv-loop μ-loop
+same-length c = search copying
+
+returns : tie.Need-returns Inv-loop μ-loop
+returns c = search copying
+
+pub copy-in-spec : {M : Type 1} → statement M
+copy-in-spec =
+    tie.close
+    (tie.spec
+    Inv-loop
+    μ-loop
+    loop-holds
+    mul-width
+    array-read-width
+    mul-to
+    array-read-to
+    add-to
+    copy-run-requires
+    add-packed
+    add-i
+    loop-less
+    loop-again
+    same-length
+    returns)

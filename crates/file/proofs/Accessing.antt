@@ -1,0 +1,139 @@
+-- The checks that reads and writes share, in their order, and what a granted access hands to a mover; and where an access at the pointer begins.
+use Prim.Native.Nat.{ℕ, _+_, _*_, _≤_, _<_}
+use mathlib.Core.Bool.{Bool, true, false, not}
+use mathlib.Core.Logic.{⊎-elim}
+use mathlib.Core.Path.{_≡_, refl, sym, ap, _∙_}
+use native.Mathlib.Nat.{mul-le-mul}
+use native.Mathlib.Omega.{arith}
+use borrow.Author.Needs.{needs}
+use borrow.Author.Tests.{leb-true, le-leb, lt-leb}
+use lib.Dec.{leb}
+use lib.IntN.{ℤ, pos}
+use mir.Syntax.{w64}
+use mir.Val.{Fits}
+use Rattle.laws.specs.Checks.{check}
+use Rattle.laws.proofs.Booleans.{lt-or-le, also-no, check-yes, check-no, check-inv, cond-yes, cond-no, unflag-true, unflag-false}
+use Rattle.view.specs.Limits.{pointerAllowed}
+use Rattle.view.specs.Types.{paper, whole}
+use Rattle.view.specs.Places.{dataSize}
+use Rattle.rules.specs.Parts.{EntriesKept}
+use Rattle.ranges.specs.Ranges.{accessAllowed}
+use Rattle.ranges.proofs.Ranging.{access-sum, access-offset}
+use Rattle.copier.specs.Parts.{sizeOf}
+use Rattle.mover.specs.Parts.{Movable}
+use Rattle.mover.proofs.Etypes.{entries-kept, data-is, data-small}
+use Rattle.file.specs.declared.Handle.{Handle}
+use Rattle.file.specs.declared.FileRecord.{FileRecord}
+use Rattle.file.specs.Handles.{viewOf, fileKept, startOf}
+use Rattle.file.specs.Refusals.{accessRefusal}
+use Rattle.file.specs.Parts.{checkedAccess}
+use Rattle.file.proofs.Checking.{judged-file-view, file-kept-view, file-short, file-limit, pointer-high}
+
+-- ---- the checks
+
+-- S, and c·S, which fits where check 12 bounds c
+module _ (h : Handle) (len : ℕ) (r : FileRecord) (o : ℤ) (c : ℕ) (t : Bool) (k : t ≡ fileKept h len r) (n : not t ≡ false) (s : ℕ) (e : s ≡ sizeOf (h .view .etype .entries) (h .view .etype .widths)) where
+  size-is : s ≡ dataSize (paper (h .view))
+  size-is = e ∙ data-is (h .view) (judged-file-view h len r t k n)
+
+  pub bytes-fit : (w : Bool) → w ≡ accessAllowed o c → not w ≡ false → Fits w64 (c * s)
+  bytes-fit w b q =
+      let m = mul-le-mul {n₁ = c} {m₁ = s} {n₂ = 4294967296} {m₂ = 64} (omega (arith, access-sum o c (unflag-true w _ b q))) (omega (arith, size-is, data-small (h .view) (judged-file-view h len r t k n))) in
+      record { fits = omega arith }
+
+module _ (u : Bool) (h : Handle) (len : ℕ) (r : FileRecord) (o : ℤ) (c room : ℕ) (t : Bool) (k : t ≡ fileKept h len r) where
+  pub access-handle : not t ≡ true → 1 ≡ checkedAccess u h len r o c room
+  unfolding checkedAccess
+  access-handle n = check-no _ 1 _ 1 (unflag-false t _ k n) refl
+
+  module _ (n : not t ≡ false) where
+    pub access-entries : EntriesKept (h .view .etype .entries) (h .view .etype .widths) (h .view .etype .displacements)
+    access-entries = entries-kept (h .view) (judged-file-view h len r t k n)
+
+    pub access-mode : not u ≡ true → 11 ≡ checkedAccess u h len r o c room
+    unfolding checkedAccess
+    access-mode m = check-yes _ 1 _ 11 (unflag-true t _ k n) (check-no _ 11 _ 11 (unflag-false u _ refl m) refl)
+
+    module _ (m : not u ≡ false) (w : Bool) (b : w ≡ accessAllowed o c) where
+      pub access-range : not w ≡ true → 12 ≡ checkedAccess u h len r o c room
+      unfolding checkedAccess accessRefusal
+      access-range q = check-yes _ 1 _ 12 (unflag-true t _ k n) (check-yes _ 11 _ 12 (unflag-true u _ refl m) (check-no _ 12 _ 12 (unflag-false w _ b q) refl))
+
+      module _ (q : not w ≡ false) (s : ℕ) (e : s ≡ sizeOf (h .view .etype .entries) (h .view .etype .widths)) where
+        pub access-room : room < c * s → 13 ≡ checkedAccess u h len r o c room
+        unfolding checkedAccess accessRefusal viewOf
+        access-room l = check-yes _ 1 _ 13 (unflag-true t _ k n) (check-yes _ 11 _ 13 (unflag-true u _ refl m) (check-yes _ 12 _ 13 (unflag-true w _ b q) (check-no _ 13 _ 13 (lt-leb (c * dataSize (paper (h .view))) room (rw (size-is h len r o c t k n s e) at l)) refl)))
+
+        pub access-granted : c * s ≤ room → 0 ≡ checkedAccess u h len r o c room
+        unfolding checkedAccess accessRefusal viewOf
+        access-granted l = check-yes _ 1 _ 0 (unflag-true t _ k n) (check-yes _ 11 _ 0 (unflag-true u _ refl m) (check-yes _ 12 _ 0 (unflag-true w _ b q) (check-yes _ 13 _ 0 (le-leb (c * dataSize (paper (h .view))) room (rw (size-is h len r o c t k n s e) at l)) refl)))
+
+pub ruleset accessing = (needs, access-handle, access-entries, access-mode, access-range, bytes-fit, access-room, access-granted)
+
+-- ---- what they leave
+
+-- the checks after them are asked exactly if none of them refuses
+pub checked-no : (u : Bool) (h : Handle) (len : ℕ) (r : FileRecord) (o : ℤ) (c room later : ℕ) → (checkedAccess u h len r o c room ≡ 0 → ⊥) → checkedAccess u h len r o c room ≡ check (fileKept h len r) 1 (check u 11 (accessRefusal h o c room later))
+unfolding checkedAccess accessRefusal check
+checked-no u h len r o c room later z = cases (fileKept h len r) u (accessAllowed o c) (leb (c * dataSize (viewOf h)) room) z
+  where
+    cases : (a b d e : Bool) → (check a 1 (check b 11 (check d 12 (check e 13 0))) ≡ 0 → ⊥) → check a 1 (check b 11 (check d 12 (check e 13 0))) ≡ check a 1 (check b 11 (check d 12 (check e 13 later)))
+    cases false b d e z = refl
+    cases true false d e z = refl
+    cases true true false e z = refl
+    cases true true true false z = refl
+    cases true true true true z = absurd (z refl)
+
+module _ (u : Bool) (h : Handle) (len : ℕ) (r : FileRecord) (o : ℤ) (c room : ℕ) (z : checkedAccess u h len r o c room ≡ 0) where
+  first-check : (fileKept h len r ≡ true) × (check u 11 (check (accessAllowed o c) 12 (check (leb (c * dataSize (viewOf h)) room) 13 0)) ≡ 0)
+  unfolding checkedAccess accessRefusal
+  first-check = check-inv _ 1 _ (omega arith) z
+
+  mode-check : (u ≡ true) × (check (accessAllowed o c) 12 (check (leb (c * dataSize (viewOf h)) room) 13 0) ≡ 0)
+  mode-check = check-inv _ 11 _ (omega arith) (first-check .1)
+
+  range-check : (accessAllowed o c ≡ true) × (check (leb (c * dataSize (viewOf h)) room) 13 0 ≡ 0)
+  range-check = check-inv _ 12 _ (omega arith) (mode-check .1)
+
+  room-check : leb (c * dataSize (viewOf h)) room ≡ true
+  room-check = check-inv _ 13 _ (omega arith) (range-check .1) .0
+
+  pub checked-yes : (later : ℕ) → check (fileKept h len r) 1 (check u 11 (accessRefusal h o c room later)) ≡ later
+  unfolding accessRefusal
+  checked-yes later = sym (check-yes _ 1 _ later (first-check .0) (check-yes _ 11 _ later (mode-check .0) (check-yes _ 12 _ later (range-check .0) (check-yes _ 13 _ later room-check refl))))
+
+  pub checked-sum : whole o + c ≤ 4294967296
+  checked-sum = access-sum o c (range-check .0)
+
+  pub checked-movable : Movable (h .view) len (r .size) o c room
+  unfolding viewOf
+  checked-movable = record {
+    ranged = record { kept = file-kept-view h len r (first-check .0); offset = access-offset o c (range-check .0); last = checked-sum };
+    short = file-short h len r (first-check .0);
+    limit = file-limit h len r (first-check .0);
+    room = leb-true _ _ room-check;
+  }
+
+-- ---- at the pointer
+
+pub start-past : (h : Handle) → 4294967296 < h .pointer → pos 0 ≡ startOf h
+unfolding startOf pointerAllowed
+start-past h l = cond-no _ (pos (h .pointer)) (pos 0) (pos 0) (lt-leb (h .pointer) 4294967296 l) refl
+
+pub start-at : (h : Handle) → h .pointer ≤ 4294967296 → (z : ℤ) → z ≡ pos (h .pointer) → z ≡ startOf h
+unfolding startOf pointerAllowed
+start-at h l z e = cond-yes _ (pos (h .pointer)) (pos 0) z (le-leb (h .pointer) 4294967296 l) e
+
+pub start-small : (p : ℕ) → p ≤ 4294967296 → p < 9223372036854775808
+start-small p l = omega arith
+
+pub ruleset starting = (needs, start-past, start-at, start-small)
+
+-- check 1 refuses a pointer that is no offset
+pub past-kept : (h : Handle) (len : ℕ) (r : FileRecord) → 4294967296 < h .pointer → fileKept h len r ≡ false
+unfolding fileKept
+past-kept h len r l = sym (also-no _ _ (sym (pointer-high h l)))
+
+-- what does not go by the offset where it refuses is the same at the pointer and where the access begins
+pub start-same : {A : Type 0} (h : Handle) (f : ℤ → A) → (4294967296 < h .pointer → (a b : ℤ) → f a ≡ f b) → f (startOf h) ≡ f (pos (h .pointer))
+start-same h f past = ⊎-elim (λ l. past l _ _) (λ l. ap f (sym (start-at h l (pos (h .pointer)) refl))) (lt-or-le 4294967296 (h .pointer))

@@ -1,0 +1,105 @@
+-- What both movers and the end of a write share: a walk from the spot of an offset to that of the next, in which no sum wraps, and the part of the buffer that belongs to each etype.
+use Prim.Native.Nat.{ℕ, _+_, _-_, _*_, _^_, _≤_, _<_}
+use mathlib.Core.Bool.{true}
+use mathlib.Core.Logic.{⊎-elim}
+use mathlib.Core.Path.{_≡_, ap, _∙_}
+use native.Mathlib.Nat.{eq-zero-or-pos, mul-le-mul-right}
+use native.Mathlib.Omega.{arith}
+use lib.IntN.{ℤ}
+use mir.Syntax.{w64}
+use mir.Val.{Fits, toZ, ofZ}
+use Rattle.laws.specs.Lists.{nth}
+use Rattle.laws.proofs.Quotients.{run-div, run-mod, times-more}
+use Rattle.view.specs.declared.View.{View}
+use Rattle.view.specs.Limits.{offsetAllowed}
+use Rattle.view.specs.Types.{PaperView, paper, whole}
+use Rattle.view.specs.Rules.{Kept}
+use Rattle.view.specs.Places.{place, byteOf, dataSize}
+use Rattle.rules.specs.Parts.{reachOf}
+use Rattle.locate.specs.declared.Spot.{Spot}
+use Rattle.locate.specs.Spots.{SpotAt, nextSpot, SpotKept}
+use Rattle.locate.proofs.Placing.{offset-read, spot-held, spot-place, spot-step, spot-small, spot-kept, spot-next}
+use Rattle.copier.specs.Parts.{sizeOf}
+use Rattle.mover.specs.Moves.{fileByte}
+use Rattle.mover.specs.Parts.{Ranged}
+use Rattle.mover.proofs.Etypes.{data-is, reach-small}
+
+-- a byte of the data of an access, by the etype that it is of
+pub file-byte-run : (v : PaperView) (o t j : ℕ) → j < dataSize v → fileByte v o (t * dataSize v + j) ≡ byteOf v (o + t) j
+unfolding fileByte
+file-byte-run v o t j l = rw (run-div (dataSize v) t j l, run-mod (dataSize v) t j l)
+
+-- of the offsets from o to the last, which is not walked to, those before x are done, and s is the spot of x
+pub record Walking (v : View) (o last x : ℕ) (s : Spot) : Type 0 where
+  pub kept : Kept (paper v)
+  pub bound : last ≤ 4294967296
+  pub begun : o ≤ x
+  pub reached : x ≤ last
+  pub spot : SpotAt (paper v) x s
+
+pub walk-none : (v : View) (o last : ℕ) (s : Spot) → Kept (paper v) → last ≤ 4294967296 → o ≤ last → SpotAt (paper v) o s → Walking v o last o s
+walk-none v o last s k b l at = record { kept = k; bound = b; begun = omega arith; reached = l; spot = at }
+
+module _ (v : View) (o last x : ℕ) (s : Spot) (w : Walking v o last x s) (l : x < last) where
+  below : x < 4294967296
+  below = omega (arith, w .bound)
+
+  pub walk-fits : Fits w64 (x + 1)
+  walk-fits = record { fits = omega (arith, below) }
+
+  pub walk-kept : SpotKept (v .filetype) s
+  walk-kept = spot-kept v (w .kept) x s (w .spot) below
+
+  pub walk-held : s .instance < 64
+  walk-held = spot-held v (w .kept) x s (w .spot)
+
+  pub walk-step : s .tile .0 + v .filetype .extent < 18446744073709551616
+  walk-step = spot-step v (w .kept) x s (w .spot) below
+
+  pub walk-more : (s' : Spot) → s' ≡ nextSpot s (v .filetype .instances) (v .filetype .extent) → Walking v o last (x + 1) s'
+  walk-more s' n = record {
+    kept = w .kept;
+    bound = w .bound;
+    begun = omega (arith, w .begun);
+    reached = omega arith;
+    spot = spot-next v (w .kept) x s (w .spot) s' n;
+  }
+
+  -- p is where the etype at x begins, r how far it reaches
+  module _ (p : ℕ) (begins : p ≡ s .tile .0 + nth (v .filetype .origins) (s .instance)) where
+    pub walk-place : p ≡ place (paper v) x
+    walk-place = begins ∙ spot-place v (w .kept) x s (w .spot)
+
+    pub walk-end-fits : (r : ℕ) → r ≡ reachOf (v .etype .widths) (v .etype .displacements) (v .etype .entries) → Fits w64 (p + r)
+    walk-end-fits r e = record { fits = omega (arith, spot-small v (w .kept) x s (w .spot) below, reach-small v (w .kept)) }
+
+  -- S bytes of the buffer, from (x - o)·S on, are the etype's
+  module _ (S : ℕ) (sized : S ≡ sizeOf (v .etype .entries) (v .etype .widths)) where
+    pub walk-size : S ≡ dataSize (paper v)
+    walk-size = sized ∙ data-is v (w .kept)
+
+    pub walk-room : (c room : ℕ) → last ≡ o + c → c * dataSize (paper v) ≤ room → (x - o) * S + S ≤ room
+    walk-room c room e q = rw walk-size (omega (arith, times-more (x - o) (dataSize (paper v)), mul-le-mul-right {m = x - o + 1} {n = c} (dataSize (paper v)) (omega (arith, w .begun))))
+
+-- ---- where an access begins
+
+module _ (v : View) (o : ℤ) (c : ℕ) (h : Ranged v o c) (some : c ≡ 0 → ⊥) where
+  pub positive : 0 < c
+  positive = ⊎-elim (λ z. absurd (some z)) (λ p. p) (eq-zero-or-pos c)
+
+  pub move-offset : offsetAllowed o ≡ true
+  move-offset = h .offset positive
+
+  -- `first` is the access's offset as the machine reads it
+  module _ (first : ℕ) (read : first ≡ whole (toZ w64 (ofZ w64 o))) where
+    pub first-is : first ≡ whole o
+    first-is = read ∙ ap whole (offset-read o move-offset)
+
+    pub last-bound : first + c ≤ 4294967296
+    last-bound = omega (arith, first-is, h .last)
+
+    pub last-fits : Fits w64 (first + c)
+    last-fits = record { fits = omega (arith, last-bound) }
+
+    pub walk-begun : (s : Spot) → SpotAt (paper v) (whole o) s → Walking v first (first + c) first s
+    walk-begun s at = walk-none v first (first + c) s (h .kept) last-bound (omega arith) (rw first-is at)

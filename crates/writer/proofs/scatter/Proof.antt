@@ -1,0 +1,94 @@
+-- `scatter` stores each etype's data at its place; the etype lies in the file, as the write's end does. Assumes nothing.
+use Prim.Native.Nat.{_-_}
+use Rattle.writer.proofs.Scattering.{Scattering, scattering}
+use Rattle.writer.proofs.scatter.Statement.{statement}
+use Rattle.writer.proofs.scatter.Tie as tie
+
+abbrev Inv-loop : tie.InvT-loop
+Inv-loop v file₀ count buf etype filetype packed first last spot₀ x₀ file spot x = Scattering v buf first count file₀ file x spot
+
+abbrev μ-loop : tie.MeasureT-loop
+μ-loop v file₀ count buf etype filetype packed first last spot₀ x₀ file spot x = last - x
+
+returns : tie.Need-returns Inv-loop μ-loop
+returns c = search scattering
+
+data-size-requires : tie.Need-data-size-requires Inv-loop μ-loop
+data-size-requires c κs = search scattering
+
+natural-requires : tie.Need-natural-requires Inv-loop μ-loop
+natural-requires c κs = search scattering
+
+add-last : tie.Need-add-last Inv-loop μ-loop
+add-last c = search scattering
+
+spot-of-requires : tie.Need-spot-of-requires Inv-loop μ-loop
+spot-of-requires c κs = search scattering
+
+loop-holds : tie.Need-loop-holds Inv-loop μ-loop
+loop-holds c = search scattering
+
+begin-at-requires : tie.Need-begin-at-requires Inv-loop μ-loop
+begin-at-requires c κs = search scattering
+
+sub-from : tie.Need-sub-from Inv-loop μ-loop
+sub-from c = search scattering
+
+mul-from : tie.Need-mul-from Inv-loop μ-loop
+mul-from c = search scattering
+
+sub-copy-in : tie.Need-sub-copy-in Inv-loop μ-loop
+sub-copy-in c = search scattering
+
+part-copy-in-start : tie.Need-part-copy-in-start Inv-loop μ-loop
+part-copy-in-start c = search scattering
+
+part-copy-in-end : tie.Need-part-copy-in-end Inv-loop μ-loop
+part-copy-in-end c = search scattering
+
+copy-in-requires : tie.Need-copy-in-requires Inv-loop μ-loop
+copy-in-requires c κs = search scattering
+
+next-spot-requires : tie.Need-next-spot-requires Inv-loop μ-loop
+next-spot-requires c κs = search scattering
+
+add-x : tie.Need-add-x Inv-loop μ-loop
+add-x c = search scattering
+
+loop-less : tie.Need-loop-less Inv-loop μ-loop
+loop-less c = search scattering
+
+loop-again : tie.Need-loop-again Inv-loop μ-loop
+loop-again c = search scattering
+
+same-length : tie.Need-same-length Inv-loop μ-loop
+same-length c = search scattering
+
+returns-2 : tie.Need-returns-2 Inv-loop μ-loop
+returns-2 c = search scattering
+
+pub scatter-spec : {M : Type 1} → statement M
+scatter-spec =
+    tie.close
+    (tie.spec
+    Inv-loop
+    μ-loop
+    returns
+    data-size-requires
+    natural-requires
+    add-last
+    spot-of-requires
+    loop-holds
+    begin-at-requires
+    sub-from
+    mul-from
+    sub-copy-in
+    part-copy-in-start
+    part-copy-in-end
+    copy-in-requires
+    next-spot-requires
+    add-x
+    loop-less
+    loop-again
+    same-length
+    returns-2)
