@@ -1,19 +1,24 @@
 """The fixed script: document 01's figures, its six errors, both ends of each limit and the orders of checks.
 
 Each row states a record with what document 01 says of its line; `faults` compares that with the model's lines.
-Writes and the reverse lookup have no record yet; the places of their rows are marked "later".
 """
 
 from dataclasses import dataclass, replace
 
-from model import run
+from model import checksum, file_bytes, run
 from scripts import (ALL_ONES, LARGEST, LINE, SMALLEST, Request, Shape, decode, end, field, file_record, forged, give_back, new_file,
-                     open_handle, place, read_at, read_here, record, seek, set_view, words)
+                     open_handle, place, read_at, read_here, record, reverse, seek, set_view, words, write_at, write_here)
 
 MEGA = 1_048_576
 BYTES = Shape((1,), (0,), 1, (0,), 1)  # the default view
 FIRST = words((4,), 12, 100)  # P1
 LOOSE = Shape((4, 1), (0, 4), 8, (0, 16), 24)  # P8
+PARTS = Shape((2, 1, 4), (1, 4, 6), 12, (0, 12), 36, 2)  # bytes 3, 4, 6, 8 to 11, and 12 further on
+
+
+def made(seed, count):
+    """The first bytes of a file, or of a write's buffer, of this seed."""
+    return file_bytes(count, seed)
 
 
 @dataclass(frozen=True)
@@ -46,6 +51,21 @@ class Script:
         for size, offset in expected:
             self.add(file_record(file, size))
             self.add(end(slot, file), a=offset)
+
+    def owner(self, slot, byte, pair=None):
+        """The lookup of a byte that has this pair of offset and index, or none."""
+        a, b, c = (1, *pair) if pair else (0, 0, 0)
+        self.add(reverse(slot, byte), count=0, a=a, b=b, c=c)
+
+    def owners(self, slot, last, etypes):
+        """Lookups of the bytes 0 to last. `etypes` has the file bytes of the offsets 0, 1 and so on; the other bytes have no pair."""
+        pairs = {byte: (offset, index) for offset, places in enumerate(etypes) for index, byte in enumerate(places)}
+        for byte in range(last + 1):
+            self.owner(slot, byte, pairs.get(byte))
+
+    def write(self, record, moved, size, content):
+        """A granted write to file 0, with the file's size and all its bytes after it."""
+        self.add(record, count=moved, size0=size, sum0=checksum(content))
 
 
 # Document 01's figures
@@ -92,19 +112,47 @@ def p6_and_p7(s):
     s.add(seek(1, 1, 0, 2), pointer=25)
 
 
-def p8_and_p9(s):
-    s.section = "P8, P9"
+def p6_for_writing(s):
+    s.section = "P6 for writing"
+    shape = words((0, 4), 4)
+    s.add(new_file(0, 24, 10, 2))
+    for mode, refusal in [(2, 1), (3, 1), (1, 11)]:
+        s.add(forged(0, mode, 0, shape))
+        s.add(write_at(0, 0, 0, 4, 16), refusal, size0=10, sum0=checksum(made(2, 24)))
+        s.add(write_here(0, 0, 4, 16), refusal, pointer=0)
+        s.add(reverse(0, 4), refusal)
+    s.open(0, 3)
+    s.set(0, shape, 10)
+    s.write(write_at(0, 0, 4, 4, 16), 4, 10, made(2, 24)[:4] + made(90, 4) + made(2, 24)[8:])  # the default view stays
+
+
+def p8(s):
+    s.section = "P8"
     s.add(new_file(0, 60, 60, 5))
     for mode in (2, 3):
         s.open(2, mode)
         s.set(2, LOOSE)
         s.places(2, [0, 16, 24, 40])
-    # later: the reverse lookup of bytes 20, 21 and 24
+        s.owner(2, 20, (1, 4))
+        s.owner(2, 21)
+        s.owner(2, 24, (2, 0))
+    s.owners(2, 63, [range(byte, byte + 5) for byte in (0, 16, 24, 40, 48)])
     s.add(read_at(2, 0, 0, 3, 15), count=3)
     s.add(read_at(2, 0, 1, 2, 16), count=2)
+
+
+def p9(s):
+    s.section = "P9"
+    s.open(2, 3)
     s.set(2, words((4,), 12))
     s.places(2, [4, 16])
-    # later: the write of 2 words at lengths 20 and 19
+    data = made(90, 8)
+    s.add(new_file(0, 20, 0, 5))
+    s.write(write_at(2, 0, 0, 2, 8), 2, 20, bytes(4) + data[:4] + bytes(8) + data[4:])
+    s.add(read_at(2, 0, 0, 2, 8), count=2, lent1=checksum(data))
+    s.add(new_file(0, 19, 0, 5))
+    s.add(write_at(2, 0, 0, 2, 8), 14, count=0, size0=0, sum0=checksum(made(5, 19)), lent1=checksum(data))
+    s.write(write_at(2, 0, 0, 1, 8), 1, 8, bytes(4) + data[:4] + made(5, 19)[8:])
 
 
 def p10(s):
@@ -127,6 +175,10 @@ def p11_and_p12(s):
     s.add(read_at(0, 0, 2**32 - 1, 2, 8), 12)
     s.add(read_at(0, 0, 2**32, 0, 8), count=0)
     s.add(read_at(0, 0, 2**32, 1, 8), 12)
+    s.add(write_at(0, 0, 2**32 - 1, 1, 8), 14)
+    s.add(write_at(0, 0, 2**32 - 1, 2, 8), 12)
+    s.write(write_at(0, 0, 2**32, 0, 8), 0, 40, made(0, 40))
+    s.add(write_at(0, 0, 2**32, 1, 8), 12)
     shape = Shape((1,), (0,), 1, (0, 3), 2)
     for mode, refusal in [(1, 0), (2, 10), (3, 10)]:
         s.open(0, mode)
@@ -166,9 +218,14 @@ def opens(s):
     for mode in (1, 2, 3):
         s.open(3, mode)
         s.add(read_at(3, 0, 0, 1, 1), 11 if mode == 2 else 0)
+        s.add(write_at(3, 0, 0, 1, 1), 11 if mode == 1 else 0)
+        s.add(write_here(3, 0, 1, 1), 11 if mode == 1 else 0)
+        s.add(reverse(3, 0), 11 if mode == 1 else 0)
     s.section = "open that names no mode"
     s.open(3, 0)
     s.add(read_at(3, 0, 3, 2, 2), count=2)
+    s.add(write_at(3, 0, 3, 2, 2), count=2)
+    s.owner(3, 7, (7, 0))
     s.set(3, words((0, 2), 6), 10)
     for mode in (4, 2**32 + 1, ALL_ONES):
         s.section = f"refused open, mode {mode}"
@@ -364,38 +421,46 @@ def set_does_not_look_at_the_file(s):
     s.open(1, 3)
     s.set(1, FIRST)
     s.add(place(1, 2), a=128)
+    s.owner(1, 105, (0, 1))
     s.add(give_back(1, (1, 1, 1, 1)), a=100, b=1, c=4, d=1, e=12)
 
 
 # Check 1 by forged handles
 
-def every_call(s, slot, file, refusal=0, read=None, count=1):
-    """Each call that tests the handle, the set last. `read` is the reads' refusal."""
-    read = refusal if read is None else read
+READ_ONLY, WRITE_ONLY = (0, 0, 11, 11, 11), (11, 11, 0, 0, 0)
+
+
+def every_call(s, slot, file, refusal=0, access=(0,) * 5, count=1):
+    """Each call that tests the handle, the set last. `access` has the refusals of both reads, both writes and the reverse lookup."""
+    if refusal:
+        access = (refusal,) * 5
     s.add(give_back(slot, (9, 8, 256, 257), 11), refusal)
     s.add(place(slot, 1), refusal)
     s.add(end(slot, file), refusal)
     s.add(seek(slot, file, 0, 1), refusal)
-    s.add(read_at(slot, file, 0, count, 64), read)
-    s.add(read_here(slot, file, count, 64), read)
+    s.add(read_at(slot, file, 0, count, 64), access[0])
+    s.add(read_here(slot, file, count, 64), access[1])
+    s.add(write_at(slot, file, 0, count, 64), access[2])
+    s.add(write_here(slot, file, count, 64), access[3])
+    s.add(reverse(slot, 1), access[4])
     s.set(slot, words((4,), 12), refusal)
 
 
 def forged_granted(s):
     s.add(new_file(0, 200, 180, 6))
     rows = [
-        ("smallest numbers", 1, 0, BYTES),
-        ("largest pointer and view displacement", 3, 2**32, replace(BYTES, displacement=2**40)),
-        ("8 entries, 32 instances", 3, 1, Shape((1,) * 8, tuple(range(8)), 8, tuple(range(0, 256, 8)), 256)),
-        ("4 entries, 64 instances, mode 2", 2, 1, Shape((1,) * 4, tuple(range(4)), 4, tuple(range(0, 256, 4)), 256)),
-        ("1 entry, 64 instances, overlap, mode 1", 1, 1, Shape((8,), (0,), 8, tuple(range(64)), 1)),
-        ("largest etype displacement, extents", 3, 1, Shape((1, 2), (0, MEGA - 2), MEGA, (0,), MEGA)),
-        ("largest origin", 3, 1, Shape((8,), (0,), 8, (0, MEGA - 8), MEGA)),
+        ("smallest numbers", 1, 0, BYTES, READ_ONLY),
+        ("largest pointer and view displacement", 3, 2**32, replace(BYTES, displacement=2**40), (0,) * 5),
+        ("8 entries, 32 instances", 3, 1, Shape((1,) * 8, tuple(range(8)), 8, tuple(range(0, 256, 8)), 256), (0,) * 5),
+        ("4 entries, 64 instances, mode 2", 2, 1, Shape((1,) * 4, tuple(range(4)), 4, tuple(range(0, 256, 4)), 256), WRITE_ONLY),
+        ("1 entry, 64 instances, overlap, mode 1", 1, 1, Shape((8,), (0,), 8, tuple(range(64)), 1), READ_ONLY),
+        ("largest etype displacement, extents", 3, 1, Shape((1, 2), (0, MEGA - 2), MEGA, (0,), MEGA), (0, 0, 14, 14, 0)),
+        ("largest origin", 3, 1, Shape((8,), (0,), 8, (0, MEGA - 8), MEGA), (0, 0, 0, 14, 0)),
     ]
-    for name, mode, pointer, shape in rows:
+    for name, mode, pointer, shape, access in rows:
         s.section = f"forged, granted: {name}"
         s.add(forged(0, mode, pointer, shape), pointer=pointer)
-        every_call(s, 0, 0, read=11 if mode == 2 else 0, count=0 if pointer == 2**32 else 1)
+        every_call(s, 0, 0, access=access, count=0 if pointer == 2**32 else 1)
 
 
 def forged_refused(s):
@@ -463,7 +528,7 @@ def garbage(s):
     for fill, mode, shape in [(1, 3, FIRST), (2**63, 1, words((0, 8), 4)), (ALL_ONES, 3, LOOSE)]:
         s.section = f"unused places hold {fill}"
         s.add(forged(2, mode, 1, shape, fill=fill), pointer=1)
-        every_call(s, 2, 0)
+        every_call(s, 2, 0, access=READ_ONLY if mode == 1 else (0,) * 5)
     s.section = "unused places and overlap"
     s.add(forged(2, 3, 0, words((0, 4), 8), fill=2))
     s.add(place(2, 3), a=12)
@@ -480,8 +545,11 @@ def files_that_break_limits(s):
         s.add(end(1, 1), 1)
         for whence in (0, 1, 2, 3):
             s.add(seek(1, 1, 0, whence), 1)
-        s.add(read_at(1, 1, 0, 0, 0), 1)
-        s.add(read_here(1, 1, 0, 0), 1)
+        for call in (read_at, write_at):
+            s.add(call(1, 1, 0, 0, 0), 1)
+        for call in (read_here, write_here):
+            s.add(call(1, 1, 0, 0), 1)
+        s.owner(1, size, (size, 0))
     for size in (65537, 2**40, 2**40 + 1, ALL_ONES):
         s.section = f"size {size}, length 65536"
         s.add(new_file(1, 65536, size, 0))
@@ -493,6 +561,8 @@ def files_that_break_limits(s):
         s.add(seek(1, 1, 0, 2), pointer=length)
         s.add(read_here(1, 1, 1, 1), count=0)
         s.add(read_at(1, 1, max(length - 2, 0), 4, 4), count=min(length, 2))
+        s.add(write_here(1, 1, 1, 1), 14, pointer=length)
+        s.add(write_here(1, 1, 0, 0), count=0, pointer=length, size1=length)
 
 
 # Place, end and seek
@@ -575,7 +645,7 @@ def read_sizes(s):
     s.section = "read: sizes"
     s.add(new_file(0, 90, 90, 12))
     s.open(0, 3)
-    s.set(0, Shape((2, 1, 4), (1, 4, 6), 12, (0, 12), 36, 2))  # bytes 3, 4, 6, 8 to 11, and 12 further on
+    s.set(0, PARTS)
     for size, moved in [(3, 0), (7, 0), (11, 0), (12, 1), (23, 1), (24, 2), (47, 2), (48, 3), (59, 3), (60, 4)]:
         s.add(file_record(0, size))
         s.add(read_at(0, 0, 0, 4, 30, 5), count=moved)
@@ -626,7 +696,257 @@ def two_handles_on_one_file(s):
     s.set(1, words((4,), 8))
     for slot, moved in [(0, 2), (1, 2), (0, 4), (1, 4), (0, 5), (1, 5)]:
         s.add(read_here(slot, 1, 2, 8), pointer=moved)
-    # later: writes by one handle, read by the other
+
+
+# Writes
+
+def writes_at_an_offset(s):
+    s.section = "write at an offset"
+    s.add(new_file(0, 71, 40, 31))
+    s.open(0, 2)
+    s.set(0, words((0, 8), 16, 3))  # places 3, 11, 19, 27, 35, 43, 51, 59, 67
+    s.add(seek(0, 0, 2, 0), pointer=2)
+    for offset in (-1, SMALLEST, LARGEST, 2**32 + 1):
+        s.add(write_at(0, 0, offset, 0, 8), 12, pointer=2)
+    for offset, count in [(0, ALL_ONES), (1, ALL_ONES), (2**32, ALL_ONES), (-1, 1), (0, 2**32 + 1), (1, 2**32), (2**32 - 1, 2), (2**32, 1)]:
+        s.add(write_at(0, 0, offset, count, 4096), 12, count=0, pointer=2)
+    for offset, count in [(0, 2**32), (2**32 - 1025, 1025), (0, 1025), (0, 2**30), (0, 2**30 + 1), (1, 2**32 - 1)]:
+        s.add(write_at(0, 0, offset, count, 4096), 13, count=0, pointer=2)
+    for offset, count in [(2**32 - 1, 1), (2**32 - 1024, 1024), (0, 1024), (9, 1), (0, 10), (8, 2)]:
+        s.add(write_at(0, 0, offset, count, 4096), 14, count=0, pointer=2)
+    for count in (1, 2, 9):
+        s.add(write_at(0, 0, 0, count, 4 * count - 1), 13, pointer=2)
+    for offset in (0, 5, 9, 2**32 - 1, 2**32):
+        s.write(write_at(0, 0, offset, 0, 0), 0, 40, made(31, 71))
+    s.add(write_at(0, 0, 1, 3, 20), count=3, pointer=2, size0=40)
+    s.add(write_at(0, 0, 0, 9, 36), count=9, pointer=2, size0=71)
+    s.add(write_at(0, 0, 9, 0, 0), count=0, pointer=2, size0=71)
+
+
+def write_growth(s):
+    """The default view. The bytes past the size are stale, not 0."""
+    s.section = "write: growth"
+    s.add(new_file(0, 30, 5, 17))
+    s.open(0, 3)
+    content = bytearray(made(17, 30))
+    for seed, (offset, count, size, gap) in enumerate([(1, 3, 5, 0), (4, 1, 5, 0), (4, 2, 6, 0), (6, 1, 7, 0), (10, 2, 12, 3)], 50):
+        content[offset - gap:offset + count] = bytes(gap) + made(seed, count)
+        s.write(write_at(0, 0, offset, count, count, seed), count, size, content)
+        s.add(read_at(0, 0, offset, count, count + 3, 9), count=count, lent1=checksum(made(seed, count) + b"\x09" * 3))
+    for offset, count in [(30, 1), (29, 2), (0, 31)]:
+        s.add(write_at(0, 0, offset, count, 40), 14, size0=12, sum0=checksum(content))
+    s.write(write_at(0, 0, 30, 0, 4), 0, 12, content)
+    content[12:] = bytes(17) + made(90, 1)
+    s.write(write_at(0, 0, 29, 1, 1), 1, 30, content)
+    s.write(write_at(0, 0, 0, 30, 30, 61), 30, 30, made(61, 30))
+    s.write(write_at(0, 0, 2, 0, 0), 0, 30, made(61, 30))
+
+
+def write_long_gap(s):
+    s.section = "write: the longest file and buffer"
+    s.add(new_file(0, 65536, 1, 18))
+    s.open(0, 2)
+    s.add(write_at(0, 0, 65536 - 4095, 4096, 4096), 14, size0=1)
+    content = made(18, 1) + bytes(65536 - 4097) + made(90, 4096)
+    s.write(write_at(0, 0, 65536 - 4096, 4096, 4096), 4096, 65536, content)
+    s.add(file_record(0, 0))
+    s.write(write_at(0, 0, 1, 1, 1, 77), 1, 2, b"\0" + made(77, 1) + content[2:])  # bytes past the new size stay
+
+
+def write_gaps(s):
+    """P8's view at byte 2: the offsets have the bytes 2 to 6, 18 to 22, 26 to 30, 42 to 46."""
+    s.section = "write: gaps"
+    s.open(0, 3)
+    s.set(0, replace(LOOSE, displacement=2))
+    old, data = made(21, 60), made(90, 15)
+    for size in (0, 1, 2, 4, 7, 12, 18, 20, 23, 24, 26, 30, 31, 33, 60):
+        content = bytearray(old)
+        content[size:31] = bytes(max(0, 31 - size))
+        for byte, first in [(2, 0), (18, 5), (26, 10)]:
+            content[byte:byte + 5] = data[first:first + 5]
+        s.add(new_file(0, 60, size, 21))
+        s.write(write_at(0, 0, 0, 3, 16), 3, max(size, 31), content)
+        s.add(read_at(0, 0, 0, 3, 16, 7), count=3, lent1=checksum(data + b"\x07"))
+    s.add(new_file(0, 60, 10, 21))
+    s.write(write_at(0, 0, 3, 1, 5), 1, 47, old[:10] + bytes(32) + data[:5] + old[47:])
+
+
+def write_lengths(s):
+    """Writes that end at the length and one past it. They go by the data, not by E, F or a gap after the data."""
+    shapes = [("P8's view", LOOSE, 1, 2, 29), ("data after gaps", PARTS, 2, 2, 60),
+              ("E below S", Shape((2, 2), (0, 2), 2, (0, 4), 8), 1, 2, 12),
+              ("F = 1", Shape((1,), (7,), 9, (0,), 1, 5), 3, 4, 19), ("width 8", Shape((8,), (0,), 8, (8, 24), 40), 2, 1, 56)]
+    s.open(0, 3)
+    for name, shape, offset, count, length in shapes:
+        s.section = f"write: lengths, {name}"
+        s.set(0, shape)
+        data = count * sum(shape.widths)
+        s.add(new_file(0, length - 1, 3, 22))
+        s.add(write_at(0, 0, offset, count, data), 14, size0=3, sum0=checksum(made(22, length - 1)))
+        s.add(write_at(0, 0, offset, 0, 0), count=0, size0=3)
+        s.add(new_file(0, length, 3, 22))
+        s.add(write_at(0, 0, offset, count + 1, data + 16), 14, size0=3, sum0=checksum(made(22, length)))
+        s.add(write_at(0, 0, offset, count, data), count=count, size0=length)
+        s.add(read_at(0, 0, offset, count, data), count=count, lent1=checksum(made(90, data)))
+
+
+def write_orders(s):
+    """The data in packed order: E above and below S, gaps in the etype, a first displacement above 0."""
+    s.section = "write: places of the data"
+    old, data = made(23, 60), made(90, 16)
+    s.open(0, 3)
+    rows = [(PARTS, 0, 2, 24, [3, 4, 6, 8, 9, 10, 11, 15, 16, 18, 20, 21, 22, 23]),
+            (Shape((2, 2), (0, 2), 2, (0, 4), 8), 1, 3, 16, [4, 5, 6, 7, 8, 9, 10, 11, 12, 13, 14, 15]),
+            (Shape((1,), (7,), 9, (0,), 1, 5), 2, 3, 17, [14, 15, 16]),
+            (Shape((1,), (0,), 8, (0, 8), 16), 0, 3, 17, [0, 8, 16]),
+            (Shape((1, 4), (2, 3), 7, (7, 14), 28), 0, 3, 42, [9, 10, 11, 12, 13, 16, 17, 18, 19, 20, 37, 38, 39, 40, 41])]
+    for shape, offset, count, stop, places in rows:
+        s.set(0, shape)
+        for size in (60, 8):
+            content = bytearray(old)
+            content[size:stop] = bytes(max(0, stop - size))
+            for index, byte in enumerate(places):
+                content[byte] = data[index]
+            s.add(new_file(0, 60, size, 23))
+            s.write(write_at(0, 0, offset, count, 16), count, max(size, stop), content)
+
+
+def two_writes(s):
+    s.section = "two writes"
+    old, one, two = made(24, 24), made(1, 8), made(200, 8)
+    s.open(0, 3)
+    s.set(0, words((0,), 8))
+    s.add(new_file(0, 24, 24, 24))
+    s.write(write_at(0, 0, 0, 2, 8, 1), 2, 24, one[:4] + old[4:8] + one[4:] + old[12:])
+    s.write(write_at(0, 0, 1, 2, 8, 200), 2, 24, one[:4] + old[4:8] + two[:4] + old[12:16] + two[4:] + old[20:])
+    s.add(read_at(0, 0, 0, 3, 12), count=3, lent1=checksum(one[:4] + two))
+    s.write(write_at(0, 0, 0, 2, 8, 200), 2, 24, two[:4] + old[4:8] + two[4:] + old[12:16] + two[4:] + old[20:])
+    s.write(write_at(0, 0, 0, 2, 8, 1), 2, 24, one[:4] + old[4:8] + one[4:] + old[12:16] + two[4:] + old[20:])
+
+
+def writes_at_the_pointer(s):
+    s.section = "write at the pointer"
+    s.add(new_file(0, 71, 0, 25))
+    s.open(0, 3)
+    s.set(0, words((0, 8), 16, 3))  # places 3, 11, 19, 27, 35, 43, 51, 59, 67
+    data, old = made(90, 12), made(25, 71)
+    s.add(write_here(0, 0, 3, 11), 13, count=0, pointer=0)
+    s.add(write_here(0, 0, 3, 12), count=3, pointer=3, size0=23,
+          sum0=checksum(bytes(3) + data[:4] + bytes(4) + data[4:8] + bytes(4) + data[8:] + old[23:]))
+    s.add(read_here(0, 0, 1, 4), count=0, pointer=3)
+    s.add(write_at(0, 0, 0, 2, 8), count=2, pointer=3)
+    s.add(write_here(0, 0, 0, 0), count=0, pointer=3, size0=23)
+    s.add(write_here(0, 0, 2, 14, 3), count=2, pointer=5, size0=39)
+    s.add(read_at(0, 0, 3, 2, 8), count=2, pointer=5, lent1=checksum(made(3, 8)))
+    s.add(write_here(0, 0, 5, 20), 14, count=0, pointer=5, size0=39)
+    s.add(write_here(0, 0, 4, 16), count=4, pointer=9, size0=71)
+    s.add(write_here(0, 0, 1, 4), 14, pointer=9)
+    s.add(write_here(0, 0, 0, 0), count=0, pointer=9, size0=71)
+    for count in (2**32 - 8, ALL_ONES):
+        s.add(write_here(0, 0, count, 14), 12, pointer=9)
+    s.add(write_here(0, 0, 2**32 - 9, 4096), 13, pointer=9)
+    s.add(seek(0, 0, 2**32 - 1, 0))
+    s.add(write_here(0, 0, 1, 4), 14, pointer=2**32 - 1)
+    s.add(write_here(0, 0, 2, 8), 12, pointer=2**32 - 1)
+    s.add(seek(0, 0, 2**32, 0))
+    s.add(write_here(0, 0, 0, 4), count=0, pointer=2**32, size0=71)
+    for count in (1, ALL_ONES):
+        s.add(write_here(0, 0, count, 4), 12, pointer=2**32)
+    s.add(seek(0, 0, -1, 2), pointer=8)
+    s.add(write_here(0, 0, 1, 4), count=1, pointer=9, size0=71)
+
+
+def writes_by_mode(s):
+    """Through the default view, and through P1's types. Of each the size after a write, and the pairs of some bytes."""
+    views = [(BYTES, 9, {0: (0, 0), 4: (4, 0), 8: (8, 0), 2**64 - 1: None}),
+             (words((4,), 12), 32, {0: None, 4: (0, 0), 8: None, 31: (2, 3), 2**64 - 1: None})]
+    for mode in (1, 2, 3):
+        s.section = f"write and reverse lookup: mode {mode}"
+        s.add(new_file(0, 40, 9, 26))
+        s.open(0, mode)
+        for shape, size, pairs in views:
+            if shape != BYTES:
+                s.set(0, shape)
+            refusal, size = (11, 9) if mode == 1 else (0, size)
+            s.add(write_at(0, 0, 1, 2, 8), refusal, size0=size)
+            s.add(write_here(0, 0, 1, 8), refusal, pointer=0 if mode == 1 else 1, size0=size)
+            s.add(write_at(0, 0, 1, 0, 0), refusal, size0=size)
+            for byte, pair in pairs.items():
+                a, b, c = (1, *pair) if pair and not refusal else (0, 0, 0)
+                s.add(reverse(0, byte), refusal, a=a, b=b, c=c)
+
+
+def writes_by_one_handle(s):
+    """A write through one view of a file, read through other views and handles."""
+    s.section = "writes by one handle, reads by another"
+    old, data = made(14, 40), made(90, 8)
+    s.add(new_file(1, 40, 8, 14))
+    s.open(0, 1)
+    s.open(1, 2)
+    s.open(2, 3)
+    s.set(0, words((0,), 8))
+    s.set(1, words((4,), 8))
+    s.add(write_here(1, 1, 2, 8), count=2, pointer=2, size1=16)  # bytes 4 to 7 and 12 to 15
+    s.add(read_here(0, 1, 4, 16), count=2, pointer=2)
+    s.add(read_at(2, 1, 0, 20, 20, 0), count=16, lent1=checksum(old[:4] + data[:4] + bytes(4) + data[4:] + bytes(4)))
+    s.add(write_at(2, 1, 0, 4, 4, 5), count=4, size1=16)
+    s.add(read_at(0, 1, 0, 2, 8), count=2, lent1=checksum(made(5, 4) + bytes(4)))
+    s.add(end(1, 1), a=2)
+    s.add(write_at(1, 1, 4, 1, 4), count=1, size1=40)
+    s.add(read_here(0, 1, 4, 16), count=3, pointer=5)
+    s.add(seek(2, 1, 0, 2), pointer=40)
+
+
+# Reverse lookups
+
+def lookups_of_every_byte(s):
+    """Every byte of small files and some past their ends, by the file bytes of each offset."""
+    rows = [("the default view", BYTES, 9, [[byte] for byte in range(10)]),
+            ("P1's types at byte 2", words((4,), 12, 2), 33, [range(6, 10), range(18, 22), range(30, 34)]),
+            ("a word at 4, F = 4", words((4,), 4), 15, [range(4, 8), range(8, 12), range(12, 16)]),
+            ("F = 1", Shape((1,), (7,), 9, (0,), 1, 5), 15, [[12], [13], [14], [15]]),
+            ("data after gaps", PARTS, 62, [[3, 4, 6, 8, 9, 10, 11], [15, 16, 18, 20, 21, 22, 23],
+                                            [39, 40, 42, 44, 45, 46, 47], [51, 52, 54, 56, 57, 58, 59]]),
+            ("E below S", Shape((2, 2), (0, 2), 2, (0, 4), 8, 1), 17, [range(1, 5), range(5, 9), range(9, 13), range(13, 17), [17]]),
+            ("E below the reach", Shape((1, 2), (1, 4), 3, (0, 6), 12), 26, [[1, 4, 5], [7, 10, 11], [13, 16, 17], [19, 22, 23], [25]])]
+    s.open(0, 2)
+    s.add(new_file(0, 20, 7, 27))
+    for name, shape, last, etypes in rows:
+        s.section = f"reverse lookup: {name}"
+        s.set(0, shape)
+        s.owners(0, last, etypes)
+
+
+def lookups_at_the_limits(s):
+    s.section = "reverse lookup: the last offset"
+    last = 2**32 - 1
+    s.open(0, 3)
+    s.owner(0, last, (last, 0))
+    for byte in (2**32, 2**32 + 1, 2**40, 2**63, ALL_ONES):
+        s.owner(0, byte)
+    s.set(0, words((0, 8, 16), 24, 2**40))  # the last offset is the first of its tile
+    begin = 2**40 + last // 3 * 24
+    for index in range(4):
+        s.owner(0, begin + index, (last, index))
+    for byte in (begin - 1, begin + 4, begin + 8, begin + 11, begin + 16, begin + 19, begin + 24, begin + 2**40, ALL_ONES):
+        s.owner(0, byte)
+    s.owner(0, begin - 8, (last - 1, 0))
+    s.owner(0, begin - 13, (last - 2, 3))
+    for byte in (0, 1, 8, 2**40 - 1, 2**40 - 16, 2**40 - 24):
+        s.owner(0, byte)
+    s.section = "reverse lookup: the furthest byte"
+    s.set(0, Shape((1,), (0,), 1, (MEGA - 1,), MEGA, 2**40))
+    s.owner(0, 2**40 + 2**52 - 1, (last, 0))
+    s.owner(0, 2**40 + MEGA - 1, (0, 0))
+    for byte in (2**40, 2**40 - 1, 2**40 + MEGA - 2, 2**40 + MEGA, 2**40 + 2**52, 2**40 + 2**52 + MEGA - 1, ALL_ONES):
+        s.owner(0, byte)
+    s.section = "reverse lookup: the shortest and the longest tile"
+    s.set(0, Shape((1,), (7,), 9, (0,), 1, 5))
+    for byte, pair in [(11, None), (12, (0, 0)), (12 + last, (last, 0)), (13 + last, None)]:
+        s.owner(0, byte, pair)
+    s.set(0, Shape((8, 8), (0, MEGA - 8), MEGA, (0,), MEGA))
+    for byte, pair in [(7, (0, 7)), (8, None), (MEGA - 9, None), (MEGA - 8, (0, 8)), (MEGA - 1, (0, 15)), (MEGA, (1, 0))]:
+        s.owner(0, byte, pair)
 
 
 # Giving back
@@ -682,7 +1002,36 @@ def pairs(s):
     s.add(read_here(2, 0, 1, 0), 1)
     s.add(read_at(0, 0, 0, 0, 0), 11)
     s.add(read_here(0, 0, 0, 0), 11)
-    # later: 13 and 14 of a write, 1 and 11 of the reverse lookup
+
+
+def write_pairs(s):
+    """Slot 0 has mode 1, slot 1 mode 3, slot 2 a broken handle, slot 3 one of mode 1. File 1 breaks its limits."""
+    s.section = "orders of checks: write, reverse lookup"
+    s.add(new_file(0, 20, 10, 15))
+    s.add(new_file(1, 20, 21, 15))
+    s.open(0, 1)
+    s.open(1, 3)
+    s.add(forged(2, 3, 0, words((0, 4), 4)))
+    s.add(forged(3, 1, 2**32 + 1, BYTES))
+    far = 2**32 - 1  # 14 applies at this offset, and 12 with count 2
+    rows = [(1, [(2, 0, 0, 1, 8), (0, 1, 0, 1, 8), (2, 0, -1, 1, 8), (1, 1, -1, 1, 8), (1, 1, 0, 9, 8), (1, 1, far, 1, 8),
+                 (3, 1, far, 2, 0)]),
+            (11, [(0, 0, 0, 0, 0), (0, 0, -1, 1, 8), (0, 0, 0, 9, 8), (0, 0, far, 1, 8), (0, 0, far, 2, 0)]),
+            (12, [(1, 0, -1, 1, 0), (1, 0, far, 2, 1), (1, 0, far, 2, 8)]),
+            (13, [(1, 0, far, 1, 0), (1, 0, 0, 21, 20), (1, 0, 20, 1, 0)]),
+            (14, [(1, 0, far, 1, 1), (1, 0, 0, 21, 21), (1, 0, 20, 1, 1)])]
+    for refusal, calls in rows:
+        for slot, file, offset, count, length in calls:
+            s.add(write_at(slot, file, offset, count, length), refusal, count=0, size0=10, sum0=checksum(made(15, 20)))
+    rows = [(1, [(2, 0, 1, 8), (0, 1, 1, 8), (1, 1, ALL_ONES, 8), (1, 1, 9, 8), (3, 0, 1, 8)]),
+            (11, [(0, 0, 0, 0), (0, 0, ALL_ONES, 8), (0, 0, 9, 8), (0, 0, 21, 21)]),
+            (12, [(1, 0, 2**32 + 1, 0), (1, 0, ALL_ONES, 8)]), (13, [(1, 0, 21, 20)]), (14, [(1, 0, 21, 21)])]
+    for refusal, calls in rows:
+        for slot, file, count, length in calls:
+            s.add(write_here(slot, file, count, length), refusal, count=0, pointer=2**32 + 1 if slot == 3 else 0)
+    for slot, refusal in [(2, 1), (3, 1), (0, 11), (1, 0)]:
+        s.add(reverse(slot, 0), refusal, a=0 if refusal else 1)
+        s.add(reverse(slot, ALL_ONES), refusal, a=0)
 
 
 # The script's own rules
@@ -711,13 +1060,28 @@ def bodies(s):
     s.add(field(39, b""), a=5)
     s.add(field(40, b"\x01"), pointer=0)
     s.add(field(42, b"\x01"), count=0)
+    s.add(field(43, b""), count=0)
+    s.add(field(44, b"\x01"), 11)
+    s.add(field(45, b"\x01"), 11)
+    s.add(open_handle(7, 3))
+    s.add(write_at(3, 3, 0, 4096, 5000), 14)
+    s.add(write_at(7, 0, 100, 4096, ALL_ONES, ALL_ONES), count=4096, size0=4196, lent1=checksum(made(255, 4096)))
+    s.add(write_at(3, 0, 0, 4097, 5000), 13)
+    s.add(write_here(ALL_ONES, 2, 1, 1, 256 + 6), count=1, pointer=1, lent1=checksum(made(6, 1)))
+    s.add(record(44, 3, 1), count=0, pointer=1)
+    s.add(record(43, 3, 1, 299, 1, 1), count=1, size1=300, lent1=checksum(b"\0"))  # seed 0
+    s.add(reverse(11, 6), a=1, b=6, c=0)
+    s.add(record(45, 3), a=1, b=0, c=0)
+    s.add(field(45, b"\x03" + b"\0" * 7 + b"\x05\x01"), a=1, b=261, c=0)
     s.add(field(35, b"\x02" + b"\0" * 7 + b"\x02"), pointer=0)
     s.add(read_at(2, 1, 0, 1, 1), 11)
 
 
-SECTIONS = (p1_to_p3, p4_and_p5, p6_and_p7, p8_and_p9, p10, p11_and_p12, six_errors, opens, set_limits, set_pairs,
+SECTIONS = (p1_to_p3, p4_and_p5, p6_and_p7, p6_for_writing, p8, p9, p10, p11_and_p12, six_errors, opens, set_limits, set_pairs,
             set_does_not_look_at_the_file, files_that_break_limits, forged_granted, forged_refused, garbage, place_offsets,
-            ends_of_file, seeks, reads_at_an_offset, read_sizes, reads_at_the_pointer, two_handles_on_one_file, giving_back, pairs, bodies)
+            ends_of_file, seeks, reads_at_an_offset, read_sizes, reads_at_the_pointer, two_handles_on_one_file,
+            writes_at_an_offset, write_growth, write_long_gap, write_gaps, write_lengths, write_orders, two_writes, writes_at_the_pointer,
+            writes_by_mode, writes_by_one_handle, lookups_of_every_byte, lookups_at_the_limits, giving_back, write_pairs, pairs, bodies)
 CUT = record(38, 1, 0)[:-1]  # the last record lacks a byte
 
 
@@ -732,15 +1096,28 @@ def script():
     return b"".join(row.record for row in rows()) + CUT
 
 
-def row_faults(row, line):
-    numbers = dict(zip(LINE, map(int, line.split())))
-    return [f"{name} is {numbers[name]}, expected {value}" for name, value in row.expected.items() if numbers[name] != value]
+FILES = ("size0", "sum0", "size1", "sum1")
+
+
+def stays(before, numbers):
+    """What a line must have whatever its row states: a refusal has no other number, and only a granted write changes a file."""
+    kept = {name: 0 for name in ("count", "a", "b", "c", "d", "e")} if numbers["refusal"] else {}
+    if numbers["tag"] not in (32, 33) and (numbers["refusal"] or numbers["tag"] not in (43, 44)):
+        kept |= {name: before[name] for name in FILES}
+    return kept
+
+
+def row_faults(row, before, numbers):
+    expected = row.expected | stays(before, numbers)
+    return [f"{name} is {numbers[name]}, expected {value}" for name, value in expected.items() if numbers[name] != value]
 
 
 def faults():
     """Where the model's lines differ from what the rows state."""
-    found = []
+    found, before = [], {name: 0 for name in FILES} | {name: checksum(b"") for name in ("sum0", "sum1")}
     for row, line in zip(rows(), run(script())):
-        for fault in row_faults(row, line):
+        numbers = dict(zip(LINE, map(int, line.split())))
+        for fault in row_faults(row, before, numbers):
             found.append(f"{row.section}: {decode(row.record[0], row.record[3:])}: {fault}")
+        before = numbers
     return found

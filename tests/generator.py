@@ -1,4 +1,4 @@
-"""The generated scripts: `generate(seed)` gives one script of about 400 records, rich in boundary cases.
+"""The generated scripts: `generate(seed)` gives one script of about 560 records, rich in boundary cases.
 
 The generator runs the model along, so that it can aim calls at the view, pointer and file that they will find.
 """
@@ -8,10 +8,10 @@ from random import Random
 
 from model import OFFSETS, Body, Driver, Rules
 from scripts import (ALL_ONES, LARGEST, SMALLEST, Shape, end, field, file_record, forged, give_back, new_file, open_handle, place, read_at,
-                     read_here, record, seek, set_view)
+                     read_here, record, reverse, seek, set_view, write_at, write_here)
 
 MEGA = 1_048_576
-RECORDS = (340, 460)
+RECORDS = (480, 620)
 DAMAGES = (2, 3, 4, 5, 6, 7, 8, 9, 9, 10, 10)  # the refusals that a damaged set aims at
 BAD_WIDTHS = (0, 3, 5, 6, 7, 9, 16, 2**32 + 1, ALL_ONES)
 BAD_EXTENTS = (0, -1, MEGA + 1, LARGEST, SMALLEST)
@@ -221,7 +221,7 @@ class Generator:
     # Handles
 
     def mode(self):
-        return self.rng.choice((1, 1, 1, 2, 3, 3))
+        return self.rng.choice((1, 1, 1, 2, 2, 3, 3, 3, 3))
 
     def open(self, slot):
         if self.chance(0.04):
@@ -352,19 +352,102 @@ class Generator:
         limit = self.rng.choice((-1, SMALLEST, LARGEST, OFFSETS - 1, OFFSETS))
         return self.rng.choice((0, 0, near, near, near, small, small, small, stop, limit))
 
+    def count_at(self, offset, count, part):
+        """This count, or in this part of the cases one at the limit of check 12."""
+        if self.chance(part):
+            left = OFFSETS - max(offset, 0)
+            return self.rng.choice((left, left + 1, ALL_ONES)) % 2**64
+        return count
+
     def read_at(self, slot, file):
-        offset, count = self.read_offset(slot, file), self.count()
-        if self.chance(0.05):
-            count = self.rng.choice((OFFSETS - max(offset, 0), OFFSETS - max(offset, 0) + 1, ALL_ONES)) % 2**64
+        offset = self.read_offset(slot, file)
+        count = self.count_at(offset, self.count(), 0.05)
         self.emit(read_at(slot, file, offset, count, self.buffer(slot, count), self.rng.randrange(256)))
 
     def read_here(self, slot, file):
         if self.chance(0.4):
             self.emit(seek(slot, file, self.rng.randrange(4), 0))
-        count, pointer = self.count(), self.driver.slots[slot].pointer
-        if self.chance(0.08):
-            count = self.rng.choice((OFFSETS - pointer, OFFSETS - pointer + 1, ALL_ONES)) % 2**64
+        count = self.count_at(self.driver.slots[slot].pointer, self.count(), 0.08)
         self.emit(read_here(slot, file, count, self.buffer(slot, count), self.rng.randrange(256)))
+
+    def write_offset(self, slot, file, count):
+        """An offset from which this many etypes end before, near or after the file's length, or one at a limit."""
+        if not self.is_sound(slot) or self.chance(0.1):
+            return self.rng.choice((0, 1, 5, -1, SMALLEST, LARGEST, OFFSETS - 1, OFFSETS))
+        room = self.driver.rules.end_of_file(self.driver.slots[slot].view, len(self.driver.files[file].data))
+        last = max(0, room - count)
+        near = max(0, last + self.rng.choice((-3, -2, -1, -1, 0, 0, 1)))
+        return self.rng.choice((0, near, near, near, self.rng.randrange(min(last, 50) + 1), self.file_end(slot, file)))
+
+    def read_back(self, slot, file, offset, count):
+        """Mostly the read of what was just written, seldom where the mode does not allow it."""
+        if self.chance(0.2 if self.driver.slots[slot].mode == 2 else 0.8):
+            self.emit(read_at(slot, file, offset, count, self.buffer(slot, count), self.rng.randrange(256)))
+
+    def write_here_from(self, slot, file, count):
+        """A write at the pointer, then mostly the read of what it wrote."""
+        offset = self.driver.slots[slot].pointer
+        self.emit(write_here(slot, file, count, self.buffer(slot, count), self.rng.getrandbits(9)))
+        self.read_back(slot, file, min(offset, LARGEST), count)
+
+    def write_at(self, slot, file):
+        count = self.count()
+        offset = self.write_offset(slot, file, count)
+        count = self.count_at(offset, count, 0.05)
+        self.emit(write_at(slot, file, offset, count, self.buffer(slot, count), self.rng.getrandbits(9)))
+        self.read_back(slot, file, offset, count)
+
+    def write_here(self, slot, file):
+        count = self.count()
+        if self.chance(0.6):
+            self.emit(seek(slot, file, max(0, self.write_offset(slot, file, count)), 0))
+        self.write_here_from(slot, file, self.count_at(self.driver.slots[slot].pointer, count, 0.08))
+
+    def write_end(self, slot, offset, count):
+        """The end of the highest byte of this write, 0 where the handle is not sound."""
+        if not self.is_sound(slot):
+            return 0
+        return max(self.driver.rules.mapped(self.driver.slots[slot].view, offset, count)) + 1
+
+    def exact_write(self, slot, file):
+        """A write to a file whose length is the write's end or near it; the bytes past the size are stale."""
+        offset, count = self.rng.choice((0, 0, 1, 2, 3, 7)), self.rng.choice((1, 1, 2, 2, 3, 5))
+        stop = self.write_end(slot, offset, count)
+        if stop > 20_000:
+            return self.write_at(slot, file)
+        length = max(0, stop + self.rng.choice((0, 0, 0, -1, -1, 1, 12)))
+        size = self.rng.choice((0, length, self.rng.randint(0, length), self.rng.randint(0, length)))
+        self.emit(new_file(file, length, size, self.rng.randrange(256)))
+        if self.chance(0.4):
+            self.emit(seek(slot, file, offset, 0))
+            return self.write_here_from(slot, file, count)
+        self.emit(write_at(slot, file, offset, count, self.buffer(slot, count), self.rng.getrandbits(9)))
+        self.read_back(slot, file, offset, count)
+
+    # Reverse lookups
+
+    def byte(self, slot):
+        """A file byte at or beside the data of an etype, beside the view's displacement, or at a limit."""
+        if not self.is_sound(slot) or self.chance(0.15):
+            return self.rng.choice((0, 1, self.rng.randrange(300), 2**32, 2**40, 2**63, ALL_ONES, self.rng.getrandbits(64)))
+        view, near = self.driver.slots[slot].view, self.rng.randrange(40)
+        offset = self.rng.choice((near, near, near, 0, OFFSETS - 1, OFFSETS - 2, OFFSETS, OFFSETS + 1, self.rng.randrange(OFFSETS)))
+        data = self.rng.choice(self.driver.rules.data_places(view, offset)) + self.rng.choice((0, 0, 0, -1, 1))
+        return max(0, self.rng.choice((data, data, data, data, data, view.displacement, view.displacement - 1)))
+
+    def reverse(self, slot, _file):
+        self.emit(reverse(slot, self.byte(slot)))
+
+    def every_byte(self, slot, file):
+        """A small file, and lookups of each of its bytes and some past them; of a view that lies further on, of its first bytes."""
+        length = self.rng.randint(3, 24)
+        self.emit(new_file(file, length, self.rng.randint(0, length), self.rng.randrange(256)))
+        first = 0
+        if self.is_sound(slot):
+            data = self.driver.rules.data_places(self.driver.slots[slot].view, 0)[0]
+            first = data - 3 if data > length else 0
+        for byte in range(first, first + length + 4):
+            self.emit(reverse(slot, byte))
 
     # Scripts
 
@@ -380,24 +463,32 @@ class Generator:
             if self.chance(0.7):
                 self.sound_set(slot)
 
+    def call(self, slot, file):
+        """A call. The writes and lookups of a handle that does not allow them are fewer."""
+        both = (self.give_back, self.place, self.end, self.seek, self.seek, self.read_at, self.read_at, self.read_here, self.read_here)
+        writing = (self.write_at, self.write_at, self.write_here, self.write_here, self.exact_write, self.exact_write, self.reverse,
+                   self.reverse)
+        can = self.is_sound(slot) and self.driver.slots[slot].mode != 1
+        self.rng.choice(writing if self.chance(0.5 if can else 0.2) else both)(slot, file)
+
     def episode(self):
-        """A handle, a file and some calls."""
+        """A handle, a file and some calls, a few of them by other handles."""
         slot, file = self.rng.randrange(4), self.rng.randrange(2)
         self.new_handle(slot)
         self.file(slot, file)
-        calls = (self.give_back, self.place, self.end, self.seek, self.seek, self.read_at, self.read_at, self.read_at,
-                 self.read_here, self.read_here)
-        for _ in range(self.rng.randint(4, 12)):
-            if self.chance(0.2):
+        for _ in range(self.rng.randint(4, 14) if self.is_sound(slot) else self.rng.randint(3, 7)):
+            if self.chance(0.12):
                 self.new_size(slot, file)
             elif self.chance(0.08):
                 self.set(slot)
-            self.rng.choice(calls)(slot, file)
+            self.call(self.rng.randrange(4) if self.chance(0.1) else slot, file)
+        if self.chance(0.12 if self.is_sound(slot) and self.driver.slots[slot].mode != 1 else 0.02):
+            self.every_byte(slot, file)
 
     def tail(self):
         """What stands after the last whole record."""
         cut = record(38, 1, 2)
-        return self.rng.choice((b"", b"", cut[:1], cut[:2], cut[:3], cut[:-1], field(31, b""), field(43, b"\0" * 8), b"\x01\0\0", b"\xff"))
+        return self.rng.choice((b"", b"", cut[:1], cut[:2], cut[:3], cut[:-1], field(31, b""), field(46, b"\0" * 8), b"\x01\0\0", b"\xff"))
 
     def script(self):
         least = self.rng.randint(*RECORDS)

@@ -73,6 +73,7 @@ class Answer:
     refusal: int = 0
     count: int = 0
     numbers: tuple = ()
+    file: File = None  # the file after a granted write; else the file stays
 
 
 def padded(numbers, places):
@@ -183,6 +184,18 @@ class Rules:
     def etype_size(self, view):
         return sum(view.etype().widths)
 
+    def pairs(self, view, byte):
+        """The pairs of offset and index that map to this file byte, by a try of every data byte of a tile."""
+        entries, found = view.etype().entries(), []
+        for instance, origin in enumerate(view.used_origins()):
+            places = [origin + d + index for w, d in entries for index in range(w)]
+            for index, place in enumerate(places):
+                tile, rest = divmod(byte - view.displacement - place, self.tile_step(view))
+                offset = tile * view.instances + instance
+                if rest == 0 and 0 <= offset < OFFSETS:
+                    found.append((offset, index))
+        return found
+
     def end_of_instance(self, view, instance, size):
         """One past the last offset of this instance that begins below the size, 0 if none does."""
         room = size - view.displacement - view.origins[instance]
@@ -235,6 +248,15 @@ class Rules:
             return Answer(handle, 12)
         return Answer(handle, numbers=(self.place(handle.view, offset),))
 
+    def reverse(self, handle, byte):
+        """The numbers 1, offset and index, or 0, 0, 0 for none. A view accepted for writing has at most one pair."""
+        if not self.handle_allowed(handle):
+            return Answer(handle, 1)
+        if handle.mode not in WRITING:
+            return Answer(handle, 11)
+        found = self.pairs(handle.view, byte)
+        return Answer(handle, numbers=(1, *found[0]) if found else (0, 0, 0))
+
     def end_query(self, handle, file):
         if not (self.handle_allowed(handle) and self.file_allowed(file)):
             return Answer(handle, 1)
@@ -250,10 +272,11 @@ class Rules:
             return Answer(handle, 12)
         return Answer(replace(handle, pointer=target))
 
-    def read_refusal(self, handle, file, offset, count, buffer):
+    def access_refusal(self, handle, file, modes, offset, count, buffer):
+        """The first of the refusals that a read and a write share, or 0; `modes` are those that allow the access."""
         if not (self.handle_allowed(handle) and self.file_allowed(file)):
             return 1
-        if handle.mode not in READING:
+        if handle.mode not in modes:
             return 11
         if offset < 0 or offset + count > OFFSETS:
             return 12
@@ -265,7 +288,7 @@ class Rules:
         return all(place < file.size for place in places)
 
     def read_at(self, handle, file, offset, count, buffer):
-        refusal = self.read_refusal(handle, file, offset, count, buffer)
+        refusal = self.access_refusal(handle, file, READING, offset, count, buffer)
         if refusal:
             return Answer(handle, refusal)
         size, moved = self.etype_size(handle.view), 0
@@ -282,6 +305,41 @@ class Rules:
         answer = self.read_at(handle, file, handle.pointer, count, buffer)
         return replace(answer, handle=replace(handle, pointer=handle.pointer + answer.count))
 
+    def mapped(self, view, offset, count):
+        """The file bytes of a write, in the order of its counted data. Check 13 comes before, so there are few."""
+        return [place for o in range(offset, offset + count) for place in self.data_places(view, o)]
+
+    def past_length(self, file, places):
+        return any(place >= len(file.data) for place in places)
+
+    def new_size(self, file, places):
+        """The larger of the old size and the end of the highest byte written, where there is one."""
+        return max([file.size] + [place + 1 for place in places])
+
+    def cleared(self, file, size, places):
+        """Where bytes that the write doesn't map become 0: between the old and the new size."""
+        return range(file.size, size)
+
+    def written(self, file, places, buffer):
+        """The file after a write: each byte of it is mapped and gets its data, or becomes 0, or stays."""
+        size, data = self.new_size(file, places), dict(zip(places, buffer))
+        cleared = self.cleared(file, size, places)
+        changed = [data[i] if i in data else 0 if i in cleared else byte for i, byte in enumerate(file.data)]
+        return File(bytes(changed), size)
+
+    def write_at(self, handle, file, offset, count, buffer):
+        refusal = self.access_refusal(handle, file, WRITING, offset, count, buffer)
+        if refusal:
+            return Answer(handle, refusal)
+        places = self.mapped(handle.view, offset, count)
+        if self.past_length(file, places):
+            return Answer(handle, 14)
+        return Answer(handle, count=count, file=self.written(file, places, buffer))
+
+    def write_here(self, handle, file, count, buffer):
+        answer = self.write_at(handle, file, handle.pointer, count, buffer)
+        return replace(answer, handle=replace(handle, pointer=handle.pointer + answer.count))
+
 
 # The script
 
@@ -289,7 +347,7 @@ SLOTS, FILES = 4, 2
 LONGEST_LIST, LONGEST_BUFFER, LONGEST_FILE = 300, 4096, 65536
 MOST_RECORDS = 1_000_000
 CHECKSUM_MODULUS = 4_294_967_291
-CALLS = range(35, 43)
+CALLS = range(35, 46)
 
 
 class Body:
@@ -362,11 +420,12 @@ def set_record(body):
 
 @dataclass(frozen=True)
 class Step:
-    """One record that was run: its byte place in the script, its answer (None for the file records) and its line."""
+    """One record that was run: its byte place in the script, the files before it, its answer (None for the file records), its line."""
 
     place: int
     tag: int
     body: Body
+    files: tuple
     answer: Answer
     line: str
 
@@ -395,7 +454,8 @@ class Driver:
         self.slots = [REFUSED_HANDLE] * SLOTS
         self.files = [File(b"", 0)] * FILES
         self.records = {32: self.new_file, 33: self.file_record, 34: self.forged_handle, 35: self.open, 36: self.set,
-                        37: self.give_back, 38: self.place, 39: self.end, 40: self.seek, 41: self.read_at, 42: self.read_here}
+                        37: self.give_back, 38: self.place, 39: self.end, 40: self.seek, 41: self.read_at, 42: self.read_here,
+                        43: self.write_at, 44: self.write_here, 45: self.reverse}
 
     def handle(self, body):
         return self.slots[body.number(0) % SLOTS]
@@ -451,6 +511,20 @@ class Driver:
         buffer = self.buffer(body.number(3), body.number(4))
         return self.rules.read_here(self.handle(body), self.file(body), body.number(2), buffer), [buffer]
 
+    def data(self, length, seed):
+        return file_bytes(min(length, LONGEST_BUFFER), seed % 256)
+
+    def write_at(self, body):
+        buffer = self.data(body.number(4), body.number(5))
+        return self.rules.write_at(self.handle(body), self.file(body), body.signed(2), body.number(3), buffer), [buffer]
+
+    def write_here(self, body):
+        buffer = self.data(body.number(3), body.number(4))
+        return self.rules.write_here(self.handle(body), self.file(body), body.number(2), buffer), [buffer]
+
+    def reverse(self, body):
+        return self.rules.reverse(self.handle(body), body.number(1)), []
+
     def line(self, tag, answer, lent):
         if answer is None:
             numbers = [tag] + [0] * 9
@@ -462,10 +536,13 @@ class Driver:
         return " ".join(map(str, (*numbers, *padded([checksum(one) for one in lent], 4))))
 
     def step(self, place, tag, body):
+        files = tuple(self.files)
         answer, lent = self.records[tag](body)
         if answer is not None:
             self.slots[body.number(0) % SLOTS] = answer.handle
-        return Step(place, tag, body, answer, self.line(tag, answer, lent))
+        if answer is not None and answer.file is not None:
+            self.files[body.number(1) % FILES] = answer.file
+        return Step(place, tag, body, files, answer, self.line(tag, answer, lent))
 
     def steps(self, script):
         """A Step for each record that is taken, and a Stop at one that is cut short or of another tag."""

@@ -109,6 +109,18 @@ def read_here(slot, file, count, length, fill=170):
     return record(42, slot, file, count, length, fill)
 
 
+def write_at(slot, file, offset, count, length, seed=90):
+    return record(43, slot, file, offset, count, length, seed)
+
+
+def write_here(slot, file, count, length, seed=90):
+    return record(44, slot, file, count, length, seed)
+
+
+def reverse(slot, byte):
+    return record(45, slot, byte)
+
+
 NAMES = {
     32: ("file", "file length size seed"),
     33: ("file record", "file size"),
@@ -121,6 +133,9 @@ NAMES = {
     40: ("seek", "slot file offset* whence"),
     41: ("read at an offset", "slot file offset* count buffer fill"),
     42: ("read at the pointer", "slot file count buffer fill"),
+    43: ("write at an offset", "slot file offset* count buffer seed"),
+    44: ("write at the pointer", "slot file count buffer seed"),
+    45: ("reverse lookup", "slot byte"),
 }
 LINE = ("tag refusal count a b c d e pointer view size0 sum0 size1 sum1 lent1 lent2 lent3 lent4").split()
 

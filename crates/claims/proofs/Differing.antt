@@ -1,6 +1,6 @@
 -- Two writes with the same view, offset and count on equal files, both granted: a file byte differs afterwards exactly if it belongs to a pair whose data differ.
 -- Rests on `IsWritten` of both (Granted.antt), and on what same views have in common.
-use Prim.Native.Nat.{ℕ, _+_, _-_, _*_, _/_, _%_, _≤_, _<_}
+use Prim.Native.Nat.{ℕ, _+_, _*_, _/_, _%_, _≤_, _<_}
 use mathlib.Core.List.{List}
 use mathlib.Core.Logic.{_≢_, ⊎-elim}
 use mathlib.Core.Path.{_≡_, sym, ap, _∙_, transport⁻¹}
@@ -8,7 +8,6 @@ use native.Mathlib.Omega.{arith}
 use Rattle.laws.specs.Lists.{nth}
 use Rattle.view.specs.Types.{PaperView, whole}
 use Rattle.view.specs.Places.{dataSize}
-use Rattle.view.specs.Owners.{Belongs}
 use Rattle.view.proofs.Same.{same-paper}
 use Rattle.ranges.proofs.Ranging.{access-sum}
 use Rattle.mover.specs.Moves.{fileByte, newSize, IsWritten}
@@ -16,20 +15,11 @@ use Rattle.mover.proofs.Writing.{Found, mapped-or-not, same-unmapped}
 use Rattle.file.specs.declared.Moved.{Moved}
 use Rattle.file.specs.Handles.{viewOf}
 use Rattle.claims.specs.declared.Write.{Write}
-use Rattle.claims.specs.Writes.{offsetOf, Made, sizeIn, countedBytes, Alike, DataDiffer, FilesDiffer, TwoWrites}
+use Rattle.claims.specs.Writes.{offsetOf, Made, Alike, DataDiffer, FilesDiffer, TwoWrites}
 use Rattle.claims.proofs.Granted.{GrantedWrite, granted-write, new-size}
 use Rattle.claims.proofs.Pairs.{pair-counted, pair-lies, pair-within, pair-back, pair-belongs}
 
 -- ---- the files that two writes leave, whatever asked for them
-
--- byte b belongs to a pair of the access whose data differ
-record Differing (v : PaperView) (o c : ℕ) (buffer buffer' : List ℕ) (b : ℕ) : Type 0 where
-  x : ℕ
-  j : ℕ
-  belongs : Belongs v b x j
-  from : o ≤ x
-  upto : x < o + c
-  differ : nth buffer ((x - o) * dataSize v + j) ≢ nth buffer' ((x - o) * dataSize v + j)
 
 module _ (v : PaperView) (size o c : ℕ) (buffer buffer' file f g : List ℕ) (p : IsWritten v size o c buffer file f) (q : IsWritten v size o c buffer' file g) where
   -- data that differ leave bytes that differ
@@ -39,7 +29,7 @@ module _ (v : PaperView) (size o c : ℕ) (buffer buffer' file f g : List ℕ) (
   file-differs : (i : ℕ) → i < c * dataSize v → nth buffer i ≢ nth buffer' i → f ≢ g
   file-differs i l n e = index-differs i l n (ap (λ (s : List ℕ). nth s (fileByte v o i)) e)
 
-  pair-differs : (b : ℕ) → Differing v o c buffer buffer' b → nth f b ≢ nth g b
+  pair-differs : (b : ℕ) → DataDiffer v o c buffer buffer' b → nth f b ≢ nth g b
   pair-differs b d e =
       let l = d .belongs .index in
       let at = pair-lies v o c (d .x) (d .j) (d .from) (d .upto) l ∙ d .belongs .lies in
@@ -47,7 +37,7 @@ module _ (v : PaperView) (size o c : ℕ) (buffer buffer' file f g : List ℕ) (
 
   -- bytes that differ are mapped, so they belong to a pair
   module _ (some : 0 < dataSize v) (last : o + c ≤ 4294967296) where
-    found-differs : (b : ℕ) → nth f b ≢ nth g b → Found v o c b → Differing v o c buffer buffer' b
+    found-differs : (b : ℕ) → nth f b ≢ nth g b → Found v o c b → DataDiffer v o c buffer buffer' b
     found-differs b n s =
         let i = s .index in
         record {
@@ -59,8 +49,12 @@ module _ (v : PaperView) (size o c : ℕ) (buffer buffer' file f g : List ℕ) (
           differ = rw (pair-back v o c i some (s .below)) (λ e. n (rw (s .lies) (p .mapped i (s .below) ∙ e ∙ sym (q .mapped i (s .below)))));
         }
 
-    differs-pair : (b : ℕ) → nth f b ≢ nth g b → Differing v o c buffer buffer' b
+    differs-pair : (b : ℕ) → nth f b ≢ nth g b → DataDiffer v o c buffer buffer' b
     differs-pair b n = ⊎-elim (found-differs b n) (λ u. absurd (n (same-unmapped v size o c buffer buffer' file f g p q b u))) (mapped-or-not v o c b)
+
+    -- the claim about the definitions
+    pub files-differ : FilesDiffer v o c buffer buffer' f g
+    files-differ = record { long = p .long ∙ sym (q .long); only = differs-pair; each = pair-differs; different = file-differs }
 
 -- ---- two writes as they are asked for
 
@@ -83,24 +77,8 @@ module _ (a b : Write) (before after buffer before' after' buffer' : List ℕ) (
     second : IsWritten (viewOf (a .handle)) (a .file .size) (whole (offsetOf a)) (a .count) buffer' before after'
     second = transport⁻¹ (λ i. IsWritten (same-view i) (alike .file i .size) (whole (alike .offset i)) (alike .count i) buffer' (alike .bytes i) after') (granted-write b before' after' buffer' n mb zb .bytes)
 
-    only : (p : ℕ) → nth after p ≢ nth after' p → DataDiffer a buffer buffer' p
-    unfolding sizeIn
-    only p ne =
-        let d = differs-pair (viewOf (a .handle)) _ _ _ buffer buffer' before after after' (first .bytes) second (first .some) (access-sum _ _ (first .checks .range)) p ne in
-        record { x = d .x; j = d .j; belongs = d .belongs; from = d .from; upto = d .upto; differ = d .differ }
-
-    each : (p : ℕ) → DataDiffer a buffer buffer' p → nth after p ≢ nth after' p
-    unfolding sizeIn
-    each p d =
-        pair-differs (viewOf (a .handle)) _ _ _ buffer buffer' before after after' (first .bytes) second p
-        (record { x = d .x; j = d .j; belongs = d .belongs; from = d .from; upto = d .upto; differ = d .differ })
-
-    different : (i : ℕ) → i < countedBytes a → nth buffer i ≢ nth buffer' i → after ≢ after'
-    unfolding sizeIn countedBytes
-    different i l ne = file-differs (viewOf (a .handle)) _ _ _ buffer buffer' before after after' (first .bytes) second i l ne
-
-    files-differ : FilesDiffer a buffer buffer' after after'
-    files-differ = record { only = only; each = each; different = different }
+    same-bytes : FilesDiffer (viewOf (a .handle)) (whole (offsetOf a)) (a .count) buffer buffer' after after'
+    same-bytes = files-differ (viewOf (a .handle)) _ _ _ buffer buffer' before after after' (first .bytes) second (first .some) (access-sum _ _ (first .checks .range))
 
   pub two-writes : TwoWrites a b before after buffer before' after' buffer' (record { first = m; second = n })
-  two-writes = record { first = ma; second = mb; sizes = same-size; bytes = files-differ }
+  two-writes = record { first = ma; second = mb; sizes = same-size; bytes = same-bytes }

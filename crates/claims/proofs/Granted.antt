@@ -1,60 +1,40 @@
 -- What a granted write means, explicit or at the pointer: it passed every check, left the file that document 01 describes, and gave back a handle that passes check 1.
 -- Rests on the checks of the refusal chain, on `written-is`, and on `distinct`, the one law that uses the overlap rule.
-use Prim.Native.Nat.{ℕ, _+_, _*_, _≤_, _<_}
+use Prim.Native.Nat.{ℕ, _+_, _≤_, _<_}
 use mathlib.Core.Bool.{true}
 use mathlib.Core.List.{List}
 use mathlib.Core.Logic.{⊎-elim}
 use mathlib.Core.Path.{_≡_, refl, sym, ap, _∙_}
 use native.Mathlib.Omega.{arith}
-use borrow.Author.Tests.{leb-true, le-leb}
+use borrow.Author.Tests.{le-leb}
 use lib.IntN.{ℤ, pos}
 use lib.ListN.{length}
 use Rattle.laws.specs.Checks.{granted}
-use Rattle.laws.proofs.Booleans.{eq-or-ne, also-true, also-inv, check-inv, granted-yes, granted-no}
+use Rattle.laws.proofs.Booleans.{eq-or-ne, also-true, also-inv, granted-yes, granted-no}
 use Rattle.view.specs.declared.Offset.{Offset}
 use Rattle.view.specs.Limits.{pointerAllowed}
 use Rattle.view.specs.Types.{PaperView, paper, whole}
-use Rattle.view.specs.Rules.{accepted, allowsWriting}
+use Rattle.view.specs.Rules.{accepted}
 use Rattle.view.specs.Places.{dataSize}
 use Rattle.view.proofs.Accepted.{facts, accepted-kept}
 use Rattle.view.proofs.Packing.{packed-part}
 use Rattle.view.proofs.Injective.{distinct}
-use Rattle.ranges.specs.Ranges.{accessAllowed}
 use Rattle.ranges.proofs.Ranging.{access-sum}
-use Rattle.mover.specs.Moves.{writeEnd, newSize, IsWritten, written}
+use Rattle.mover.specs.Moves.{newSize, IsWritten, written}
 use Rattle.mover.proofs.Writing.{written-is}
 use Rattle.file.specs.declared.Handle.{Handle}
 use Rattle.file.specs.declared.FileRecord.{FileRecord}
 use Rattle.file.specs.declared.Moved.{Moved}
-use Rattle.file.specs.Handles.{viewOf, handleKept, fileKept, withPointer, withSize}
-use Rattle.file.specs.Refusals.{accessRefusal, writeRefusal}
+use Rattle.file.specs.Handles.{viewOf, handleKept, withPointer, withSize}
+use Rattle.file.specs.Refusals.{writeRefusal}
 use Rattle.file.specs.Answers.{writeAtAnswer, writeAnswer, writtenFile, WriteAt, WriteNext}
+use Rattle.file.proofs.Writable.{Checked, checked}
 use Rattle.file.proofs.Checking.{handle-pointer, file-kept-handle, file-short}
 use Rattle.claims.specs.declared.Begin.{Begin}
 use Rattle.claims.specs.declared.Begin.the-variants.{Pointer, Explicit}
 use Rattle.claims.specs.declared.Write.{Write}
 use Rattle.claims.specs.Writes.{beginsAt, offsetOf, answerOf, Made}
 use Rattle.claims.proofs.Owners.{handle-accepts}
-
--- ---- the checks that it passed
-
-pub record Checked (h : Handle) (len : ℕ) (r : FileRecord) (o : ℤ) (c room : ℕ) : Type 0 where
-  pub kept : fileKept h len r ≡ true
-  pub writes : allowsWriting (h .mode) ≡ true
-  pub range : accessAllowed o c ≡ true
-  pub long : c * dataSize (viewOf h) ≤ room
-  pub ends : writeEnd (viewOf h) (whole o) c ≤ len
-
--- refusal 0 says that each check held
-pub checked : (h : Handle) (len : ℕ) (r : FileRecord) (o : ℤ) (c room : ℕ) → writeRefusal h len r o c room ≡ 0 → Checked h len r o c room
-unfolding writeRefusal accessRefusal
-checked h len r o c room z =
-    let c1 = check-inv _ 1 _ (omega arith) z in
-    let c11 = check-inv _ 11 _ (omega arith) (c1 .1) in
-    let c12 = check-inv _ 12 _ (omega arith) (c11 .1) in
-    let c13 = check-inv _ 13 _ (omega arith) (c12 .1) in
-    let c14 = check-inv _ 14 _ (omega arith) (c13 .1) in
-    record { kept = c1 .0; writes = c11 .0; range = c12 .0; long = leb-true _ _ (c13 .0); ends = leb-true _ _ (c14 .0) }
 
 -- a view that is accepted has data: its first entry's width is at least 1
 data-some : (mode : ℕ) (v : PaperView) → accepted mode v ≡ true → 0 < dataSize v

@@ -4,3 +4,4 @@ pub mod Granted
 pub mod Pairs
 pub mod Differing
 pub mod ReadingBack
+pub mod Calling

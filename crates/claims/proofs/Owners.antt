@@ -2,7 +2,7 @@
 -- Rests on the laws of the reverse lookup, of a view that is accepted for writing.
 use Prim.Native.Nat.{ℕ}
 use mathlib.Core.Bool.{true}
-use mathlib.Core.Path.{_≡_, sym, _∙_}
+use mathlib.Core.Path.{_≡_, sym, ap, _∙_}
 use native.Mathlib.Omega.{arith}
 use Rattle.laws.proofs.Booleans.{check-inv, granted-yes}
 use Rattle.view.specs.declared.Owner.{Owner}
@@ -10,17 +10,19 @@ use Rattle.view.specs.Rules.{accepted, allowsWriting}
 use Rattle.view.specs.Owners.{OneOwner, Answers, ownerOf}
 use Rattle.view.proofs.Owning.{one-owner, owner-is, owner-only}
 use Rattle.file.specs.declared.Handle.{Handle}
+use Rattle.file.specs.declared.Owned.{Owned}
 use Rattle.file.specs.Handles.{viewOf, handleKept}
 use Rattle.file.specs.Refusals.{reverseRefusal}
 use Rattle.file.specs.Answers.{reverseAnswer}
 use Rattle.file.proofs.Checking.{accepts}
+use Rattle.claims.specs.Owners.{LookedUp}
 
 module _ (h : Handle) (k : handleKept h ≡ true) where
   pub handle-accepts : accepted (h .mode) (viewOf h) ≡ true
   unfolding viewOf
   handle-accepts = accepts h k
 
-  pub handle-owner : allowsWriting (h .mode) ≡ true → OneOwner (viewOf h)
+  handle-owner : allowsWriting (h .mode) ≡ true → OneOwner (viewOf h)
   handle-owner w = one-owner (h .mode) (viewOf h) handle-accepts w
 
 -- ---- a granted reverse lookup
@@ -38,8 +40,22 @@ module _ (h : Handle) (z : reverseRefusal h ≡ 0) where
     unfolding reverseAnswer
     owner-found = granted-yes _ _ _ z
 
-    pub reverse-is : Answers (viewOf h) b (reverseAnswer h b .owner)
+    reverse-is : Answers (viewOf h) b (reverseAnswer h b .owner)
     reverse-is = rw owner-found (owner-is (h .mode) (viewOf h) judged (passed .1) b)
 
-    pub reverse-only : (o : Owner) → Answers (viewOf h) b o → o ≡ reverseAnswer h b .owner
+    reverse-only : (o : Owner) → Answers (viewOf h) b o → o ≡ reverseAnswer h b .owner
     reverse-only o a = owner-only (h .mode) (viewOf h) judged (passed .1) b o a ∙ sym owner-found
+
+-- the claim, of any answer that the call gives
+module _ (h : Handle) (b : ℕ) (r : Owned) (e : r ≡ reverseAnswer h b) where
+  is-granted : r .refusal ≡ 0 → reverseRefusal h ≡ 0
+  unfolding reverseAnswer
+  is-granted z = sym (ap (λ x. x .refusal) e) ∙ z
+
+  pub looked-up : LookedUp h b r
+  looked-up = record {
+    answer = e;
+    exact = λ z. rw e (reverse-is h (is-granted z) b);
+    only = λ z o a. reverse-only h (is-granted z) b o a ∙ sym (ap (λ x. x .owner) e);
+    one = λ z. handle-owner h (passed h (is-granted z) .0) (passed h (is-granted z) .1);
+  }

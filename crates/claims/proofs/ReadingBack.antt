@@ -27,7 +27,7 @@ use Rattle.file.proofs.Accessing.{start-at}
 use Rattle.file.proofs.Readable.{start-read}
 use Rattle.claims.specs.declared.Begin.the-variants.{Pointer}
 use Rattle.claims.specs.declared.Write.{Write}
-use Rattle.claims.specs.Writes.{beginsAt, offsetOf, Made, sizeIn, countedBytes, Returned, ReadBack}
+use Rattle.claims.specs.Writes.{beginsAt, offsetOf, Made, countedBytes, Returned, ReadBack}
 use Rattle.claims.proofs.Granted.{GrantedWrite, refused-handle, granted-write, new-size}
 use Rattle.claims.proofs.Pairs.{pair-counted, pair-lies}
 
@@ -77,7 +77,7 @@ module _ (w : Write) (before after buffer into into' : List ℕ) (m n : Moved) (
     read-kept = also-true (g .passes) (also-true (le-leb _ _ same-limit) (le-leb _ _ new-short))
 
     read-room : w .count * dataSize (viewOf (m .handle)) ≤ length into
-    unfolding countedBytes sizeIn
+    unfolding countedBytes
     read-room = rw (g .same-view) room
 
     read-passes : readRefusal (m .handle) (length after) (m .file) (offsetOf w) (w .count) (length into) ≡ 0
@@ -93,7 +93,7 @@ module _ (w : Write) (before after buffer into into' : List ℕ) (m n : Moved) (
     into-is = read .buffer ∙ granted-yes _ _ into read-passes ∙ (λ i. readInto (g .same-view i) after (whole (offsetOf w)) (count-is i) into)
 
     returned : Returned w buffer into' n
-    unfolding readAtAnswer countedBytes sizeIn
+    unfolding readAtAnswer countedBytes
     returned = record {
       granted = ap (λ x. x .refusal) (read .answer) ∙ read-passes;
       count = ap (λ x. x .count) (read .answer) ∙ count-is;

@@ -1,2 +1,4 @@
 pub mod Given
+pub mod Owners
 pub mod Writes
+pub mod Parts

@@ -41,12 +41,9 @@ pub record Made (w : Write) (before after buffer : List ℕ) (a : Moved) : Type 
   pub answer : a ≡ answerOf w (w .begin) (length before) (length buffer)
   pub bytes : after ≡ writtenFile (w .handle) before (w .file) (offsetOf w) (w .count) buffer
 
--- S in its view, and how many bytes its counted data have: the first c·S of its buffer
-unfoldable pub sizeIn : Write → ℕ
-sizeIn w = dataSize (viewOf (w .handle))
-
+-- how many bytes its counted data have: the first c·S of its buffer
 unfoldable pub countedBytes : Write → ℕ
-countedBytes w = w .count * sizeIn w
+countedBytes w = w .count * dataSize (viewOf (w .handle))
 
 -- ---- two writes
 
@@ -59,26 +56,27 @@ pub record Alike (a b : Write) (before before' : List ℕ) : Type 0 where
   pub file : a .file ≡ b .file
 
 -- file byte p belongs to a pair whose byte of the counted data differs: the pair x, j with x from o to o + c - 1 has byte (x - o)·S + j of them
-pub record DataDiffer (w : Write) (buffer buffer' : List ℕ) (p : ℕ) : Type 0 where
+pub record DataDiffer (v : PaperView) (o c : ℕ) (buffer buffer' : List ℕ) (p : ℕ) : Type 0 where
   pub x : ℕ
   pub j : ℕ
-  pub belongs : Belongs (viewOf (w .handle)) p x j
-  pub from : whole (offsetOf w) ≤ x
-  pub upto : x < whole (offsetOf w) + w .count
-  pub differ : nth buffer ((x - whole (offsetOf w)) * sizeIn w + j) ≢ nth buffer' ((x - whole (offsetOf w)) * sizeIn w + j)
+  pub belongs : Belongs v p x j
+  pub from : o ≤ x
+  pub upto : x < o + c
+  pub differ : nth buffer ((x - o) * dataSize v + j) ≢ nth buffer' ((x - o) * dataSize v + j)
 
 -- a byte differs between the files exactly when it belongs to such a pair; so different counted data leave different files
-pub record FilesDiffer (w : Write) (buffer buffer' after after' : List ℕ) : Type 0 where
-  pub only : (p : ℕ) → nth after p ≢ nth after' p → DataDiffer w buffer buffer' p
-  pub each : (p : ℕ) → DataDiffer w buffer buffer' p → nth after p ≢ nth after' p
-  pub different : (i : ℕ) → i < countedBytes w → nth buffer i ≢ nth buffer' i → after ≢ after'
+pub record FilesDiffer (v : PaperView) (o c : ℕ) (buffer buffer' after after' : List ℕ) : Type 0 where
+  pub long : length after ≡ length after'
+  pub only : (p : ℕ) → nth after p ≢ nth after' p → DataDiffer v o c buffer buffer' p
+  pub each : (p : ℕ) → DataDiffer v o c buffer buffer' p → nth after p ≢ nth after' p
+  pub different : (i : ℕ) → i < c * dataSize v → nth buffer i ≢ nth buffer' i → after ≢ after'
 
 -- both writes answer as each does alone; if both are granted, the sizes afterwards are equal, and the files differ just so
 pub record TwoWrites (a b : Write) (before after buffer before' after' buffer' : List ℕ) (r : TwoWritten) : Type 0 where
   pub first : Made a before after buffer (r .first)
   pub second : Made b before' after' buffer' (r .second)
   pub sizes : Alike a b before before' → r .first .refusal ≡ 0 → r .second .refusal ≡ 0 → r .first .file .size ≡ r .second .file .size
-  pub bytes : Alike a b before before' → r .first .refusal ≡ 0 → r .second .refusal ≡ 0 → FilesDiffer a buffer buffer' after after'
+  pub bytes : Alike a b before before' → r .first .refusal ≡ 0 → r .second .refusal ≡ 0 → FilesDiffer (viewOf (a .handle)) (whole (offsetOf a)) (a .count) buffer buffer' after after'
 
 -- ---- a write and the read after it
 

@@ -1,12 +1,10 @@
 -- The line of each kind of record, from what its calls ensure.
 use Prim.Native.Nat.{ℕ, _+_, _-_, _*_, _/_, _%_, _^_, _≤_, _<_, min}
-use mathlib.Core.Bool.{false}
 use mathlib.Core.List.{List, [], _∷_}
 use mathlib.Core.Path.{_≡_, sym, ap, _∙_}
 use native.Mathlib.Omega.{arith}
 use borrow.Author.Needs.{sfits-of}
-use borrow.Author.Tests.{lt-ltb, le-ltb, le-leb}
-use lib.Dec.{leb}
+use borrow.Author.Tests.{lt-ltb, le-ltb}
 use lib.IntN.{ℤ, pos}
 use lib.ListN.{length, take, drop, replicate, length-replicate, getD-replicate, length-drop, length-take}
 use lib.Seq.{length-take-le, take-all, getD-take, ext-getD, drop-drop, drop-length, drop-nil}
@@ -14,9 +12,7 @@ use lib.Signed.{mag}
 use mir.Syntax.{w64}
 use mir.Val.{SFits, toZ, ofZ, hbits}
 use mir.Facts.{toZ-ofZ, toZ-pos}
-use Rattle.laws.specs.Checks.{also, within}
 use Rattle.laws.specs.Lists.{nth, tabulate, front}
-use Rattle.laws.proofs.Booleans.{within-low}
 use Rattle.fields.specs.Fields.{numberAt}
 use Rattle.decode.specs.Decoding.{numberFrom, signedFrom}
 use Rattle.digest.specs.Digests.{listDigest, signedDigest}
@@ -35,7 +31,7 @@ use Rattle.conform.specs.declared.Files.{Files}
 use Rattle.conform.specs.Bodies.{signedAt, forgedHandle, listLength, bufferLength, fillByte, slotOf, fileOf, etypeWidths, etypeDisplacements, filetypeWidths, filetypeDisplacements, fillNumber, lentWidths, lentDisplacements, lentBuffer}
 use Rattle.conform.specs.Lines.{noOthers, nothingLent, openedLine, givenLine, placedLine, endedLine, movedLine, handleDigest, shownNumbers}
 use Rattle.conform.specs.Lent.{sumsOf, representationAfter, setWith, givenInto, readAtInto, readNextInto}
-use Rattle.conform.specs.Script.{forgedLine, openLine, setLine, placeLine, endLine, seekLine, giveBackLine, readAtLine, readLine, isKnown}
+use Rattle.conform.specs.Script.{forgedLine, openLine, setLine, placeLine, endLine, seekLine, giveBackLine, readAtLine, readLine}
 use Rattle.conform.proofs.Lists.{front-part, lineOf}
 
 -- ---- lengths
@@ -60,15 +56,7 @@ rest-past l n h =
     let k : length l + (8 * n - length l) ≡ 8 * n = omega arith in
     drop-length l ∙ sym (sym (ap (λ (z : ℕ). drop z l) k) ∙ sym (drop-drop (8 * n - length l) (length l) l) ∙ ap (drop (8 * n - length l)) (drop-length l) ∙ drop-nil (8 * n - length l))
 
--- ---- tags and what a record names
-
-pub known-below : (tag : ℕ) → tag < 32 → false ≡ isKnown tag
-unfolding isKnown
-known-below tag h = sym (within-low 32 42 tag h)
-
-pub known-else : (tag : ℕ) → 32 ≤ tag → leb tag 42 ≡ isKnown tag
-unfolding isKnown within also
-known-else tag h = rw (le-leb 32 tag h)
+-- ---- what a record names
 
 pub slot-is : (body : List ℕ) (x : ℕ) → x ≡ numberAt body 0 → (x % 4 ≡ slotOf body) × (x % 4 < 4)
 unfolding slotOf

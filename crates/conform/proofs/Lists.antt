@@ -49,13 +49,13 @@ byte-is seed i =
     let e : (seed / 256 + 7 * (i / 256) + i / 256 / 256) * 256 + (seed % 256 + 7 * (i % 256) + i / 256 % 256) ≡ seed + 7 * i + i / 256 = omega arith in
     sym (mul-add-mod-self-right (seed / 256 + 7 * (i / 256) + i / 256 / 256) 256 _) ∙ ap (λ (z : ℕ). z % 256) e
 
-pub byte-next : (body : List ℕ) (seed i b : ℕ) → seed ≡ numberAt body 3 → b ≡ fileByte seed i → b ≡ fileByte (numberAt body 3) i
-byte-next body seed i b e h = h ∙ ap (λ (s : ℕ). fileByte s i) e
-
 pub filled : (f : ℕ → ℕ) (i : ℕ) (l₀ l : List ℕ) → l ≡ front f i l₀ → i ≤ length l₀ → length l ≡ length l₀ → length l ≤ i → l ≡ tabulate f (length l₀)
 filled f i l₀ l e a b c = store-end (λ k. k) f i (length l₀) l₀ l e a (omega arith) ∙ front-whole f (length l₀) 0 l₀ refl
 
-pub ruleset filling = (needs, store-none, store-more, byte-next, filled)
+pub seeded : (body l₀ l : List ℕ) (i seed : ℕ) → seed ≡ numberAt body i → l ≡ tabulate (fileByte seed) (length l₀) → l ≡ tabulate (fileByte (numberAt body i)) (length l₀)
+seeded body l₀ l i seed e h = h ∙ ap (λ (s : ℕ). tabulate (fileByte s) (length l₀)) e
+
+pub ruleset filling = (needs, store-none, store-more, filled)
 
 -- ---- signed numbers
 

@@ -57,7 +57,7 @@ placedLine a file = record { refusal = a .refusal; count = a .count; others = a 
 unfoldable pub endedLine : Ended → Line
 endedLine a = record { refusal = a .refusal; count = a .count; others = whole (a .end .0) ∷ 0 ∷ 0 ∷ 0 ∷ 0 ∷ []; handle = a .handle; file = a .file; lent = nothingLent }
 
--- seek and reads, with the checksum of the buffer
+-- seek, reads and writes, with the checksum of the buffer
 unfoldable pub movedLine : Moved → ℕ → Line
 movedLine a lent = record { refusal = a .refusal; count = a .count; others = noOthers; handle = a .handle; file = a .file; lent = lent ∷ 0 ∷ 0 ∷ 0 ∷ [] }
 

@@ -1,11 +1,10 @@
--- The line of each record that makes a call, as docs/conformance.md has it: the answer of document 01, of the numbers in the body.
+-- The line of each record that makes a call and leaves every file, as docs/conformance.md has it: the answer of document 01, of the numbers in the body.
 -- The handle and the file are those that the record names.
 use Prim.Native.Nat.{ℕ}
-use mathlib.Core.Bool.{Bool, cond}
+use mathlib.Core.Bool.{cond}
 use mathlib.Core.List.{List}
 use lib.Dec.{eqb}
 use lib.ListN.{length}
-use Rattle.laws.specs.Checks.{within}
 use Rattle.fields.specs.Fields.{numberAt}
 use Rattle.file.specs.declared.Handle.{Handle}
 use Rattle.file.specs.declared.FileRecord.{FileRecord}
@@ -52,10 +51,6 @@ unfoldable pub readLine : List ℕ → Handle → List ℕ → FileRecord → Li
 readLine body h bytes file = readNextInto h bytes file (numberAt body 2) (lentBuffer body 3 4)
 
 -- ---- by tag
-
--- the tags of a script
-unfoldable pub isKnown : ℕ → Bool
-isKnown tag = within 32 42 tag
 
 unfoldable pub fileLineFor : ℕ → List ℕ → Handle → List ℕ → FileRecord → Line
 fileLineFor tag body h bytes file =

@@ -8,7 +8,7 @@ ghost use Rattle.conform.specs.Bodies.{fileByte, forgedHandle, signedAt,
 ghost use Rattle.conform.specs.Lines.{handleDigest, openedLine, givenLine, placedLine, endedLine, movedLine, shownNumbers, fileNumbers};
 ghost use Rattle.conform.specs.Parts.{digestFrom};
 ghost use Rattle.conform.specs.Lent.{sumsOf, setWith, givenInto, readAtInto, readNextInto};
-ghost use Rattle.conform.specs.Script.{forgedLine, openLine, setLine, giveBackLine, placeLine, endLine, seekLine, readAtLine, readLine, fileLineFor, lineFor, isKnown};
+ghost use Rattle.conform.specs.Script.{forgedLine, openLine, setLine, giveBackLine, placeLine, endLine, seekLine, readAtLine, readLine, fileLineFor, lineFor};
 use file::Ended;
 use file::FileRecord;
 use file::Handle;
@@ -21,8 +21,8 @@ use view::Filetype;
 use view::Offset;
 use view::View;
 
-// The tags of the records.
-const FILE: u8 = 32;
+// The tags of the records; 42 is the read at the pointer, the last.
+pub const FILE: u8 = 32;
 
 pub const FILE_RECORD: u8 = 33;
 
@@ -42,8 +42,6 @@ const SEEK: u8 = 40;
 
 const READ_AT: u8 = 41;
 
-const READ: u8 = 42;
-
 // How many handle slots and files the driver holds.
 const SLOT_COUNT: u64 = 4;
 
@@ -55,7 +53,7 @@ const SET_NUMBERS: usize = 8;
 // The longest lent list and the longest buffer.
 const LONGEST_LIST: u64 = 300;
 
-const LONGEST_BUFFER: u64 = 4096;
+pub const LONGEST_BUFFER: u64 = 4096;
 
 // 2^31, below which the numbers lie that fill a lent list.
 const FILLS: u64 = 2147483648;
@@ -82,17 +80,24 @@ fn file_byte(seed: u64, i: usize) -> u8
     ((rest + 7 * low + high) % 256) as u8
 }
 
-// Tag 32: all bytes of a file of this length.
-pub fn fill(body: &[u8], file: &mut [u8])
-    ensures { λ r. ⌜ now (file .exit) ≡ tabulate (fileByte (numberAt (now (body .entry)) 3)) (length (now (file .entry))) ⌝ }
+// All bytes of a run of this length that is made of a seed. For our own crates.
+pub fn fill_from(seed: u64, file: &mut [u8])
+    ensures { λ r. ⌜ now (file .exit) ≡ tabulate (fileByte seed) (length (now (file .entry))) ⌝ }
 {
-    let seed = fields::number(body, 3);
     let mut i = 0;
     while i < file.len() {
         let b = file_byte(seed, i);
         file[i] = b;
         i += 1;
     }
+}
+
+// Tag 32: all bytes of a file of this length.
+pub fn fill(body: &[u8], file: &mut [u8])
+    ensures { λ r. ⌜ now (file .exit) ≡ tabulate (fileByte (numberAt (now (body .entry)) 3)) (length (now (file .entry))) ⌝ }
+{
+    let seed = fields::number(body, 3);
+    fill_from(seed, file);
 }
 
 // Tag 34: a handle of any numbers.
@@ -128,8 +133,8 @@ pub fn forge(body: &[u8]) -> Handle
     }
 }
 
-// Number `i` of a body, signed.
-fn signed_at(body: &[u8], i: usize) -> i64
+// Number `i` of a body, signed. For our own crates.
+pub fn signed_at(body: &[u8], i: usize) -> i64
     ensures { λ r. ⌜ r ≡ signedAt (now (body .entry)) i ⌝ }
 {
     let bits = fields::number(body, i);
@@ -244,7 +249,8 @@ fn ended_line(a: Ended) -> Line
     }
 }
 
-fn moved_line(a: Moved, lent: u64) -> Line
+// For our own crates.
+pub fn moved_line(a: Moved, lent: u64) -> Line
     ensures { λ r. ⌜ r ≡ movedLine a lent ⌝ }
 {
     let handle = a.handle;
@@ -270,8 +276,8 @@ fn list_length(body: &[u8], i: usize) -> usize
     decode::capped(n, LONGEST_LIST)
 }
 
-// A length of a buffer.
-fn buffer_length(body: &[u8], i: usize) -> usize
+// A length of a buffer. For our own crates.
+pub fn buffer_length(body: &[u8], i: usize) -> usize
     ensures { λ r. ⌜ (r ≡ bufferLength (now (body .entry)) i) × (r ≤ 4096) ⌝ }
 {
     let n = fields::number(body, i);
@@ -486,16 +492,6 @@ pub fn read_line(body: &[u8], h: Handle, file: &[u8], rec: FileRecord) -> Line
 
 // ---- any record
 
-// Whether a tag is one of this script's.
-pub fn known(tag: u8) -> bool
-    ensures { λ r. ⌜ r ≡ isKnown tag ⌝ }
-{
-    if tag < FILE {
-        return false;
-    }
-    tag <= READ
-}
-
 // The handle slot that a record names.
 pub fn slot_of(body: &[u8]) -> usize
     ensures { λ r. ⌜ (r ≡ slotOf (now (body .entry))) × (r < 4) ⌝ }
@@ -516,7 +512,7 @@ pub fn file_of(tag: u8, body: &[u8]) -> usize
     (n % FILE_COUNT) as usize
 }
 
-// The record of a call on a file, tags 39 and above.
+// The record of a call on a file that leaves its bytes, tags 39 and above.
 fn perform_on_file(tag: u8, body: &[u8], h: Handle, file: &[u8], rec: FileRecord) -> Line
     ensures { λ r. ⌜ r ≡ fileLineFor tag (now (body .entry)) h (now (file .entry)) rec ⌝ }
 {
@@ -532,7 +528,7 @@ fn perform_on_file(tag: u8, body: &[u8], h: Handle, file: &[u8], rec: FileRecord
     read_line(body, h, file, rec)
 }
 
-// Makes the call of a record of tag 34 or above, on the handle and the file that it names.
+// Makes the call of a record of tags 34 to 42, on the handle and the file that it names.
 pub fn perform(tag: u8, body: &[u8], h: Handle, file: &[u8], rec: FileRecord) -> Line
     ensures { λ r. ⌜ r ≡ lineFor tag (now (body .entry)) h (now (file .entry)) rec ⌝ }
 {

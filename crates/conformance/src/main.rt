@@ -62,7 +62,7 @@ fn end_of(s: &[u8]) -> usize
     let Field::Whole { tag, start, length } = found else {
         return 0;
     };
-    if !conform::known(tag) {
+    if !conform_writes::known(tag) {
         return 0;
     }
     start + length
@@ -121,9 +121,16 @@ fn fill_file(body: &[u8], bytes: &mut [u8], length: u64) {
 }
 
 // The call of a record.
-fn perform(tag: u8, body: &[u8], h: Handle, bytes: &[u8], length: u64, rec: FileRecord) -> Line {
+fn perform(
+    tag: u8,
+    body: &[u8],
+    h: Handle,
+    bytes: &mut [u8],
+    length: u64,
+    rec: FileRecord,
+) -> Line {
     let n = decode::capped(length, bytes.len() as u64);
-    conform::perform(tag, body, h, &bytes[..n], rec)
+    conform_writes::perform(tag, body, h, &mut bytes[..n], rec)
 }
 
 impl Driver {
@@ -171,7 +178,7 @@ impl Driver {
     }
 
     // The call of a record, on the handle and the file that it names.
-    fn call(self, tag: u8, body: &[u8], bytes0: &[u8], bytes1: &[u8]) -> Line {
+    fn call(self, tag: u8, body: &[u8], bytes0: &mut [u8], bytes1: &mut [u8]) -> Line {
         let slot = conform::slot_of(body);
         let file = conform::file_of(tag, body);
         let slots = self.slots;

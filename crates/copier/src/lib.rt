@@ -66,13 +66,13 @@ pub fn copy_in(e: Etype, part: &[u8], file: &mut [u8], at: BytePos)
     let widths = e.widths;
     let displacements = e.displacements;
     let begin = at.0;
-    let mut packed = 0;
+    let mut taken = 0;
     let mut i = 0;
     while i < n {
         let width = widths[i] as usize;
         let to = (begin + displacements[i]) as usize;
-        copy_run(part, packed, file, to, width);
-        packed += width;
+        copy_run(part, taken, file, to, width);
+        taken += width;
         i += 1;
     }
 }

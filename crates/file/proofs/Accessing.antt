@@ -72,6 +72,16 @@ pub ruleset accessing = (needs, access-handle, access-entries, access-mode, acce
 
 -- ---- what they leave
 
+-- what the movers ask for
+pub access-movable : (h : Handle) (len : ℕ) (r : FileRecord) (o : ℤ) (c room : ℕ) → fileKept h len r ≡ true → accessAllowed o c ≡ true → c * dataSize (viewOf h) ≤ room → Movable (h .view) len (r .size) o c room
+unfolding viewOf
+access-movable h len r o c room k a b = record {
+  ranged = record { kept = file-kept-view h len r k; offset = access-offset o c a; last = access-sum o c a };
+  short = file-short h len r k;
+  limit = file-limit h len r k;
+  room = b;
+}
+
 -- the checks after them are asked exactly if none of them refuses
 pub checked-no : (u : Bool) (h : Handle) (len : ℕ) (r : FileRecord) (o : ℤ) (c room later : ℕ) → (checkedAccess u h len r o c room ≡ 0 → ⊥) → checkedAccess u h len r o c room ≡ check (fileKept h len r) 1 (check u 11 (accessRefusal h o c room later))
 unfolding checkedAccess accessRefusal check
@@ -106,13 +116,7 @@ module _ (u : Bool) (h : Handle) (len : ℕ) (r : FileRecord) (o : ℤ) (c room 
   checked-sum = access-sum o c (range-check .0)
 
   pub checked-movable : Movable (h .view) len (r .size) o c room
-  unfolding viewOf
-  checked-movable = record {
-    ranged = record { kept = file-kept-view h len r (first-check .0); offset = access-offset o c (range-check .0); last = checked-sum };
-    short = file-short h len r (first-check .0);
-    limit = file-limit h len r (first-check .0);
-    room = leb-true _ _ room-check;
-  }
+  checked-movable = access-movable h len r o c room (first-check .0) (range-check .0) (leb-true _ _ room-check)
 
 -- ---- at the pointer
 

@@ -14,10 +14,13 @@ use Rattle.laws.specs.Checks.{check, granted}
 use Rattle.laws.proofs.Booleans.{check-yes, check-no, granted-yes, granted-no, unflag-true, unflag-false}
 use Rattle.view.specs.declared.BytePos.{BytePos}
 use Rattle.view.specs.declared.Offset.{Offset}
+use Rattle.view.specs.declared.Owner.{Owner}
+use Rattle.view.specs.declared.Owner.the-variants.{Nobody}
 use Rattle.view.specs.Limits.{offsetAllowed}
 use Rattle.view.specs.Types.{PaperView, paper, whole}
-use Rattle.view.specs.Rules.{hold}
+use Rattle.view.specs.Rules.{hold, allowsWriting}
 use Rattle.view.specs.Places.{place}
+use Rattle.view.specs.Owners.{ownerOf}
 use Rattle.view.specs.End.{endOfFile}
 use Rattle.lent.specs.Lists.{lentType, lentView}
 use Rattle.accept.specs.Answers.{acceptAnswer, AcceptedAs}
@@ -27,9 +30,9 @@ use Rattle.file.specs.declared.FileRecord.{FileRecord}
 use Rattle.file.specs.declared.Opened.{Opened}
 use Rattle.file.specs.Parts.{openedAs}
 use Rattle.file.specs.Handles.{viewOf, freshHandle, modeGot, handleKept, fileKept, withView}
-use Rattle.file.specs.Refusals.{openRefusal, setViewRefusal, placeRefusal, endRefusal}
+use Rattle.file.specs.Refusals.{openRefusal, setViewRefusal, placeRefusal, reverseRefusal, endRefusal}
 use Rattle.file.proofs.Checking.{judged-view, judged-file-view, judged-size}
-use Rattle.file.specs.Answers.{openAnswer, setViewAnswer, placeAnswer, endAnswer}
+use Rattle.file.specs.Answers.{openAnswer, setViewAnswer, placeAnswer, reverseAnswer, endAnswer}
 
 -- ---- set
 
@@ -86,6 +89,22 @@ module _ (h : Handle) (o : ℤ) (t : Bool) (k : t ≡ handleKept h) where
     unfolding placeAnswer placeRefusal check granted viewOf
     place-done m p e = rw (unflag-true t _ k n, unflag-true u _ a m) (λ i. record { refusal = 0; count = 0; handle = h; place = record { 0 = e i } })
 
+-- ---- reverse
+
+module _ (h : Handle) (b : ℕ) (t : Bool) (k : t ≡ handleKept h) where
+  pub reverse-handle : not t ≡ true → record { refusal = 1; count = 0; handle = h; owner = Nobody } ≡ reverseAnswer h b
+  unfolding reverseAnswer reverseRefusal check granted
+  reverse-handle n = rw (unflag-false t _ k n)
+
+  module _ (n : not t ≡ false) (u : Bool) (a : u ≡ allowsWriting (h .mode)) where
+    pub reverse-mode : not u ≡ true → record { refusal = 11; count = 0; handle = h; owner = Nobody } ≡ reverseAnswer h b
+    unfolding reverseAnswer reverseRefusal check granted
+    reverse-mode m = rw (unflag-true t _ k n, unflag-false u _ a m)
+
+    pub reverse-done : not u ≡ false → (o : Owner) → o ≡ ownerOf (paper (h .view)) b → record { refusal = 0; count = 0; handle = h; owner = o } ≡ reverseAnswer h b
+    unfolding reverseAnswer reverseRefusal check granted viewOf
+    reverse-done m o e = rw (unflag-true t _ k n, unflag-true u _ a m) (λ i. record { refusal = 0; count = 0; handle = h; owner = e i })
+
 -- ---- end
 
 module _ (h : Handle) (len : ℕ) (r : FileRecord) (t : Bool) (k : t ≡ fileKept h len r) where
@@ -109,3 +128,5 @@ module _ (mode : ℕ) where
   open-done l got g h e m q = q ∙ rw (le-leb mode 3 l) (λ i. record { refusal = 0; count = 0; handle = (e ∙ ap freshHandle g) i })
 
 pub ruleset answering = (needs, unflag-true, set-handle, set-refuses, set-grants, judged-view, place-handle, place-range, place-done, judged-file-view, judged-size, end-handle, end-done, open-refused, open-done)
+
+pub ruleset reversing = (needs, judged-view, reverse-handle)

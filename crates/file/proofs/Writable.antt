@@ -1,8 +1,7 @@
 -- A write: check 14 after the checks of an access, what a granted one hands to the mover, and the answers at an offset and at the pointer.
-use Prim.Native.Nat.{ℕ, _+_, _≤_, _<_}
-use mathlib.Core.Bool.{Bool}
+use Prim.Native.Nat.{ℕ, _+_, _*_, _≤_, _<_}
+use mathlib.Core.Bool.{Bool, true}
 use mathlib.Core.List.{List}
-use mathlib.Core.Logic.{⊎-elim}
 use mathlib.Core.Path.{_≡_, refl, sym, ap, _∙_}
 use native.Mathlib.Omega.{arith}
 use borrow.Author.Needs.{needs}
@@ -13,24 +12,45 @@ use lib.ListN.{length}
 use mir.Syntax.{w64}
 use mir.Val.{Fits}
 use Rattle.laws.specs.Checks.{check, granted}
-use Rattle.laws.proofs.Booleans.{eq-or-ne, check-yes, check-no, check-inv, granted-yes, granted-no}
+use Rattle.laws.proofs.Booleans.{check-yes, check-no, check-inv, granted-yes, granted-no}
 use Rattle.view.specs.declared.Offset.{Offset}
 use Rattle.view.specs.Types.{paper, whole}
 use Rattle.view.specs.Rules.{allowsWriting}
+use Rattle.view.specs.Places.{dataSize}
+use Rattle.ranges.specs.Ranges.{accessAllowed}
+use Rattle.ranges.proofs.Ranging.{access-sum}
 use Rattle.mover.specs.Moves.{writeEnd, newSize}
-use Rattle.mover.specs.Parts.{Ranged, Movable}
+use Rattle.mover.specs.Parts.{Ranged}
 use Rattle.writer.specs.Parts.{Writable, WriteDone}
 use Rattle.file.specs.declared.Handle.{Handle}
 use Rattle.file.specs.declared.FileRecord.{FileRecord}
 use Rattle.file.specs.declared.Judgement.{Judgement}
 use Rattle.file.specs.declared.Moved.{Moved}
-use Rattle.file.specs.Handles.{viewOf, startOf, withPointer, withSize}
-use Rattle.file.specs.Refusals.{writeRefusal}
+use Rattle.file.specs.Handles.{viewOf, fileKept, startOf, withPointer, withSize}
+use Rattle.file.specs.Refusals.{accessRefusal, writeRefusal}
 use Rattle.file.specs.Answers.{writeAtAnswer, writtenFile, writeAnswer, WriteAt, WriteNext}
 use Rattle.file.specs.Parts.{refusedMove, checkedAccess, WriteJudged}
-use Rattle.file.proofs.Accessing.{checked-no, checked-yes, checked-sum, checked-movable, past-kept, start-same}
+use Rattle.file.proofs.Accessing.{access-movable, checked-no, checked-yes, checked-movable, past-kept, start-same}
 
 -- ---- the checks
+
+-- what a write that none of them refuses has passed
+pub record Checked (h : Handle) (len : ℕ) (r : FileRecord) (o : ℤ) (c room : ℕ) : Type 0 where
+  pub kept : fileKept h len r ≡ true
+  pub writes : allowsWriting (h .mode) ≡ true
+  pub range : accessAllowed o c ≡ true
+  pub long : c * dataSize (viewOf h) ≤ room
+  pub ends : writeEnd (viewOf h) (whole o) c ≤ len
+
+pub checked : (h : Handle) (len : ℕ) (r : FileRecord) (o : ℤ) (c room : ℕ) → writeRefusal h len r o c room ≡ 0 → Checked h len r o c room
+unfolding writeRefusal accessRefusal
+checked h len r o c room z =
+    let c1 = check-inv _ 1 _ (omega arith) z in
+    let c11 = check-inv _ 11 _ (omega arith) (c1 .1) in
+    let c12 = check-inv _ 12 _ (omega arith) (c11 .1) in
+    let c13 = check-inv _ 13 _ (omega arith) (c12 .1) in
+    let c14 = check-inv _ 14 _ (omega arith) (c13 .1) in
+    record { kept = c1 .0; writes = c11 .0; range = c12 .0; long = leb-true _ _ (c13 .0); ends = leb-true _ _ (c14 .0) }
 
 module _ (h : Handle) (len : ℕ) (r : FileRecord) (o : ℤ) (c room : ℕ) where
   -- checks 1, 11, 12 and 13, and check 14
@@ -48,26 +68,10 @@ module _ (h : Handle) (len : ℕ) (r : FileRecord) (o : ℤ) (c room : ℕ) wher
   unfolding writeRefusal checks last
   asked-last z = checked-yes (allowsWriting (h .mode)) h len r o c room z last
 
-  module _ (z : writeRefusal h len r o c room ≡ 0) where
-    all-passed : checks ≡ 0
-    all-passed = ⊎-elim (λ e. e) (λ n. refused-before n ∙ z) (eq-or-ne checks 0)
-
-    pub write-movable : Movable (h .view) len (r .size) o c room
-    unfolding checks
-    write-movable = checked-movable (allowsWriting (h .mode)) h len r o c room all-passed
-
-    pub write-sum : whole o + c ≤ 4294967296
-    unfolding checks
-    write-sum = checked-sum (allowsWriting (h .mode)) h len r o c room all-passed
-
-    pub write-inside : writeEnd (viewOf h) (whole o) c ≤ len
-    unfolding last
-    write-inside = leb-true _ _ (check-inv _ 14 0 (omega arith) (sym (asked-last all-passed) ∙ z) .0)
-
-  module _ (u : Bool) (a : u ≡ allowsWriting (h .mode)) (n : ℕ) (checked : n ≡ checkedAccess u h len r o c room) where
+  module _ (u : Bool) (a : u ≡ allowsWriting (h .mode)) (n : ℕ) (is : n ≡ checkedAccess u h len r o c room) where
     found : n ≡ checks
     unfolding checks
-    found = checked ∙ ap (λ (b : Bool). checkedAccess b h len r o c room) a
+    found = is ∙ ap (λ (b : Bool). checkedAccess b h len r o c room) a
 
     -- an access that is refused before check 14
     pub judged-access : (n ≡ 0 → ⊥) → (j : Judgement) → (j .refusal ≡ n) × (j .end ≡ 0) → WriteJudged h len r o c room j
@@ -75,7 +79,7 @@ module _ (h : Handle) (len : ℕ) (r : FileRecord) (o : ℤ) (c room : ℕ) wher
 
     module _ (z : n ≡ 0) where
       pub judged-ranged : Ranged (h .view) o c
-      judged-ranged = checked-movable u h len r o c room (sym checked ∙ z) .ranged
+      judged-ranged = checked-movable u h len r o c room (sym is ∙ z) .ranged
 
       module _ (end : ℕ) (q : end ≡ writeEnd (paper (h .view)) (whole o) c) where
         pub judged-past : len < end → (j : Judgement) → (j .refusal ≡ 14) × (j .end ≡ 0) → WriteJudged h len r o c room j
@@ -113,9 +117,10 @@ module _ (h : Handle) (file : List ℕ) (r : FileRecord) (o : ℤ) (c : ℕ) (bu
     pub at-writable : Writable (h .view) (length file) (r .size) o c (j .end) (length buf)
     unfolding viewOf
     at-writable =
-        let m = write-movable h (length file) r o c (length buf) y in
+        let p = checked h (length file) r o c (length buf) y in
+        let m = access-movable h (length file) r o c (length buf) (p .kept) (p .range) (p .long) in
         record {
-          storable = record { ranged = m .ranged; room = m .room; ends = write-inside h (length file) r o c (length buf) y };
+          storable = record { ranged = m .ranged; room = m .room; ends = p .ends };
           short = m .short;
           ending = e .end z;
         }
@@ -156,10 +161,6 @@ module _ (h : Handle) (file : List ℕ) (r : FileRecord) (c : ℕ) (buf : List �
     unfolding writeAtAnswer
     refusal-is = ap (λ x. x .refusal) answer-is
 
-    count-is : done .count ≡ granted (writeRefusal h (length file) r (pos (h .pointer)) c (length buf)) c 0
-    unfolding writeAtAnswer
-    count-is = ap (λ x. x .count) answer-is
-
     pub next-refused : (done .refusal ≡ 0 → ⊥) → WriteNext h file after r c buf done
     unfolding writeAnswer writeAtAnswer
     next-refused z =
@@ -171,17 +172,20 @@ module _ (h : Handle) (file : List ℕ) (r : FileRecord) (c : ℕ) (buf : List �
       granted-is : writeRefusal h (length file) r (pos (h .pointer)) c (length buf) ≡ 0
       granted-is = sym refusal-is ∙ z
 
-      pub pointer-fits : Fits w64 (h .pointer + done .count)
+      pub pointer-fits : Fits w64 (h .pointer + c)
       unfolding whole
-      pointer-fits = record { fits = omega (arith, write-sum h (length file) r (pos (h .pointer)) c (length buf) granted-is, count-is, granted-yes _ c 0 granted-is) }
+      pointer-fits = record { fits = omega (arith, access-sum (pos (h .pointer)) c (checked h (length file) r (pos (h .pointer)) c (length buf) granted-is .range)) }
 
-      pub next-done : WriteNext h file after r c buf (record { refusal = 0; count = done .count; handle = record { mode = h .mode; pointer = h .pointer + done .count; view = h .view }; file = done .file })
+      count-is : c ≡ granted (writeRefusal h (length file) r (pos (h .pointer)) c (length buf)) c 0
+      count-is = sym (granted-yes _ c 0 granted-is)
+
+      pub next-done : WriteNext h file after r c buf (record { refusal = 0; count = c; handle = record { mode = h .mode; pointer = h .pointer + c; view = h .view }; file = done .file })
       unfolding writeAnswer writeAtAnswer withPointer
       next-done =
           let a = writeAtAnswer h (length file) r (pos (h .pointer)) c (length buf) in
           let g = granted-yes (a .refusal) (withPointer h (h .pointer + a .count)) h granted-is in
           record {
-            answer = λ i. record { refusal = sym granted-is i; count = answer-is i .count; handle = (ap (λ (x : ℕ). withPointer h (h .pointer + x)) count-is ∙ sym g) i; file = answer-is i .file };
+            answer = λ i. record { refusal = sym granted-is i; count = count-is i; handle = (ap (λ (x : ℕ). withPointer h (h .pointer + x)) count-is ∙ sym g) i; file = answer-is i .file };
             bytes = bytes-are;
           }
 

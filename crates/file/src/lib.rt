@@ -1,4 +1,4 @@
-// The file handle and its calls: open, setting and giving back a view, place, end of file, seek, and reading and writing at an explicit offset or at the pointer.
+// The file handle and its calls: open, setting and giving back a view, place, reverse lookup, end of file, seek, and reading and writing at an explicit offset or at the pointer.
 // A call takes the handle by value and hands it back with the answer; a file is a lent run of bytes with a record by value.
 // What each call answers, and what it leaves in everything lent, is defined in specs/.
 ghost use mathlib.Core.Path.{_≡_};
@@ -10,7 +10,7 @@ ghost use Rattle.view.specs.Rules.{allowsReading, Kept};
 ghost use Rattle.lent.specs.Lists.{lentType, lentView};
 ghost use Rattle.file.specs.Handles.{freshHandle, modeGot, handleKept, fileKept, startOf};
 ghost use Rattle.file.specs.Refusals.{giveBackRefusal};
-ghost use Rattle.file.specs.Answers.{openAnswer, setViewAnswer, GaveBack, placeAnswer, endAnswer, seekAnswer, ReadAt, ReadNext, WriteAt, WriteNext};
+ghost use Rattle.file.specs.Answers.{openAnswer, setViewAnswer, GaveBack, placeAnswer, reverseAnswer, endAnswer, seekAnswer, ReadAt, ReadNext, WriteAt, WriteNext};
 ghost use Rattle.file.specs.Parts.{openedAs, refusedMove, checkedAccess, WriteJudged, seekBase};
 use view::BytePos;
 use view::Offset;
@@ -384,6 +384,36 @@ impl Handle {
         }
     }
 
+    // The pair of offset and index in the packed data that a file byte belongs to, or none; the byte is any number, past the file's length too.
+    pub fn reverse(self, byte: BytePos) -> Owned
+        ensures { λ r. ⌜ r ≡ reverseAnswer self (byte .0) ⌝ }
+    {
+        if !self.kept() {
+            return Owned {
+                refusal: Handle::REFUSED_HANDLE,
+                count: 0,
+                handle: self,
+                owner: Owner::Nobody,
+            };
+        }
+        if !rules::writes(self.mode) {
+            return Owned {
+                refusal: Handle::REFUSED_MODE,
+                count: 0,
+                handle: self,
+                owner: Owner::Nobody,
+            };
+        }
+        let view = self.view;
+        let owner = reverse::owner_of(view, byte);
+        Owned {
+            refusal: 0,
+            count: 0,
+            handle: self,
+            owner: owner,
+        }
+    }
+
     // End of file in etypes: the smallest offset such that no etype at it or later begins below the size.
     pub fn end(self, file: &[u8], rec: FileRecord) -> Ended
         ensures { λ r. ⌜ r ≡ endAnswer self (length (now (file .entry))) rec ⌝ }
@@ -591,11 +621,11 @@ impl Handle {
         if done.refusal != 0 {
             return done;
         }
-        self.pointer = self.pointer + done.count;
+        self.pointer = self.pointer + count;
         let after = done.file;
         Moved {
             refusal: 0,
-            count: done.count,
+            count: count,
             handle: self,
             file: after,
         }

@@ -118,5 +118,3 @@ write-done v len size o c end room h buf file filled file' grown g f e =
       size = n;
       bytes = e ∙ ap (store (fileByte (paper v) (whole o)) (nth buf) (c * dataSize (paper v))) (f ∙ ap (λ (z : ℕ). store (onward size) (always 0) (z - size) file) n);
     }
-
-pub ruleset writing = (needs, write-done)

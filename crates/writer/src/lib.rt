@@ -70,7 +70,15 @@ pub fn scatter(v: View, file: &mut [u8], o: Offset, count: u64, buf: &[u8])
 }
 
 // Writes `count` etypes at `o` into a file of this size, where the write ends at `end`: the gap is filled first, whole, then the data are stored. Answers the new size.
-pub fn write(v: View, file: &mut [u8], size: u64, o: Offset, count: u64, end: u64, buf: &[u8]) -> u64
+pub fn write(
+    v: View,
+    file: &mut [u8],
+    size: u64,
+    o: Offset,
+    count: u64,
+    end: u64,
+    buf: &[u8],
+) -> u64
     requires { ⌜ Writable v (length (now file)) size (o .0) count end (length (now buf)) ⌝ }
     ensures { λ r. ⌜ WriteDone v (now (file .entry)) (now (file .exit)) size (o .0) count (now (buf .entry)) r ⌝ }
 {

@@ -1,59 +1,20 @@
--- `fill` stores each byte at its index. Assumes nothing.
-use Prim.Native.Nat.{_-_, _≤_}
-use mathlib.Core.Path.{_≡_}
-use lib.ListN.{length}
-use Rattle.laws.specs.Lists.{front}
-use Rattle.fields.specs.Fields.{numberAt}
-use Rattle.conform.specs.Bodies.{fileByte}
-use Rattle.conform.proofs.Lists.{filling}
+-- `fill` takes the seed from the body. Assumes nothing.
+use Rattle.conform.proofs.Lists.{seeded}
+use borrow.Author.Needs.{needs}
 use Rattle.conform.proofs.fill.Statement.{statement}
 use Rattle.conform.proofs.fill.Tie as tie
 
-abbrev Inv-loop : tie.InvT-loop
-Inv-loop body file₀ seed i₀ file i = (i ≤ length file₀) × (length file ≡ length file₀) × (file ≡ front (fileByte (numberAt body 3)) i file₀)
+number-requires : tie.Need-number-requires
+number-requires c κs = search needs
 
-abbrev μ-loop : tie.MeasureT-loop
-μ-loop body file₀ seed i₀ file i = length file₀ - i
+fill-from-requires : tie.Need-fill-from-requires
+fill-from-requires c κs = search needs
 
-number-requires : tie.Need-number-requires Inv-loop μ-loop
-number-requires c κs = search filling
+same-length : tie.Need-same-length
+same-length c = search needs
 
-loop-holds : tie.Need-loop-holds Inv-loop μ-loop
-loop-holds c = search filling
-
-file-byte-requires : tie.Need-file-byte-requires Inv-loop μ-loop
-file-byte-requires c κs = search filling
-
-slice-write-file : tie.Need-slice-write-file Inv-loop μ-loop
-slice-write-file c = search filling
-
-add-i : tie.Need-add-i Inv-loop μ-loop
-add-i c = search filling
-
-loop-less : tie.Need-loop-less Inv-loop μ-loop
-loop-less c = search filling
-
-loop-again : tie.Need-loop-again Inv-loop μ-loop
-loop-again c = search filling
-
-same-length : tie.Need-same-length Inv-loop μ-loop
-same-length c = search filling
-
-returns : tie.Need-returns Inv-loop μ-loop
-returns c = search filling
+returns : tie.Need-returns
+returns c = search seeded
 
 pub fill-spec : {M : Type 1} → statement M
-fill-spec =
-    tie.close
-    (tie.spec
-    Inv-loop
-    μ-loop
-    number-requires
-    loop-holds
-    file-byte-requires
-    slice-write-file
-    add-i
-    loop-less
-    loop-again
-    same-length
-    returns)
+fill-spec = tie.close (tie.spec number-requires fill-from-requires same-length returns)

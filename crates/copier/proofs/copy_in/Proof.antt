@@ -8,10 +8,10 @@ use Rattle.copier.proofs.copy_in.Statement.{statement}
 use Rattle.copier.proofs.copy_in.Tie as tie
 
 abbrev Inv-loop : tie.InvT-loop
-Inv-loop part file₀ n widths displacements begin packed₀ i₀ file packed i = Copying n widths displacements begin (length file₀) (length part) (placeIn n widths displacements begin) (nth part) file₀ file i packed
+Inv-loop part file₀ n widths displacements begin taken₀ i₀ file taken i = Copying n widths displacements begin (length file₀) (length part) (placeIn n widths displacements begin) (nth part) file₀ file i taken
 
 abbrev μ-loop : tie.MeasureT-loop
-μ-loop part file₀ n widths displacements begin packed₀ i₀ file packed i = n - i
+μ-loop part file₀ n widths displacements begin taken₀ i₀ file taken i = n - i
 
 loop-holds : tie.Need-loop-holds Inv-loop μ-loop
 loop-holds c = search copying
@@ -34,8 +34,8 @@ add-to c = search copying
 copy-run-requires : tie.Need-copy-run-requires Inv-loop μ-loop
 copy-run-requires c κs = (search packed-inside, search in-inside)
 
-add-packed : tie.Need-add-packed Inv-loop μ-loop
-add-packed c = search copying
+add-taken : tie.Need-add-taken Inv-loop μ-loop
+add-taken c = search copying
 
 add-i : tie.Need-add-i Inv-loop μ-loop
 add-i c = search copying
@@ -65,7 +65,7 @@ copy-in-spec =
     array-read-to
     add-to
     copy-run-requires
-    add-packed
+    add-taken
     add-i
     loop-less
     loop-again

@@ -1,5 +1,5 @@
 -- `write` fills the gap up to the new size, then stores the data. Assumes nothing.
-use Rattle.writer.proofs.Scattering.{writing}
+use Rattle.writer.proofs.Scattering.{write-done}
 use borrow.Author.Needs.{needs}
 use Rattle.writer.proofs.write.Statement.{statement}
 use Rattle.writer.proofs.write.Tie as tie
@@ -17,7 +17,11 @@ same-length : tie.Need-same-length
 same-length c = search needs
 
 returns : tie.Need-returns
-returns c = search writing
+returns c =
+    let stored = c .before .before in
+    let filled = stored .before .before .before .before in
+    let grown = filled .before .before in
+    write-done _ _ _ _ _ _ _ (grown .before .before .before .pre) _ _ _ _ _ (grown .larger .ensures) (filled .fill .ensures) (stored .scatter .ensures)
 
 pub write-spec : {M : Type 1} → statement M
 write-spec =

@@ -1,3 +1,4 @@
+-- `open` gives the default view and pointer 0, or refuses. Assumes nothing.
 use Rattle.file.proofs.Answering.{answering}
 use borrow.Author.Needs.{needs}
 use Rattle.file.proofs.Handle.open.Statement.{statement}

@@ -1,3 +1,4 @@
+-- `set_view` refuses, or puts the accepted view and pointer 0 into the handle. Assumes nothing.
 use Rattle.file.proofs.Answering.{answering}
 use borrow.Author.Needs.{needs}
 use Rattle.file.proofs.Handle.set_view.Statement.{statement}

@@ -1,7 +1,7 @@
 -- `known` tests both ends. Assumes nothing.
-use Rattle.conform.proofs.Calls.{known-below, known-else}
-use Rattle.conform.proofs.known.Statement.{statement}
-use Rattle.conform.proofs.known.Tie as tie
+use Rattle.conform_writes.proofs.Writes.{known-below, known-else}
+use Rattle.conform_writes.proofs.known.Statement.{statement}
+use Rattle.conform_writes.proofs.known.Tie as tie
 
 returns : tie.Need-returns
 returns c = search known-below

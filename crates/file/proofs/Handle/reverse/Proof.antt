@@ -1,0 +1,31 @@
+-- `reverse` follows checks 1 and 11; what they leave is what `owner_of` requires. Assumes nothing.
+use Rattle.file.proofs.Answering.{reverse-mode, reverse-done, reversing}
+use borrow.Author.Needs.{needs}
+use Rattle.file.proofs.Handle.reverse.Statement.{statement}
+use Rattle.file.proofs.Handle.reverse.Tie as tie
+
+kept-requires : tie.Need-kept-requires
+kept-requires c κs = search needs
+
+returns : tie.Need-returns
+returns c = search reversing
+
+writes-requires : tie.Need-writes-requires
+writes-requires c κs = search needs
+
+returns-2 : tie.Need-returns-2
+returns-2 c = reverse-mode _ _ _ (c .before .before .before .kept .ensures) (c .before .before .if1 .left) _ (c .before .writes .ensures) (c .if2 .taken)
+
+owner-of-requires : tie.Need-owner-of-requires
+owner-of-requires c κs = search reversing
+
+returns-3 : tie.Need-returns-3
+returns-3 c =
+    let judged = c .before .before in
+    let kept = judged .before .before in
+    reverse-done _ _ _ (kept .before .kept .ensures) (kept .if1 .left) _ (judged .before .writes .ensures) (judged .if2 .left) _ (c .owner-of .ensures)
+
+pub reverse-spec : {M : Type 1} → statement M
+reverse-spec =
+    tie.close
+    (tie.spec kept-requires returns writes-requires returns-2 owner-of-requires returns-3)

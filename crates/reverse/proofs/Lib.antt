@@ -1,0 +1,4 @@
+pub mod Trying
+pub mod Firsts
+pub mod Instances
+pub mod Whole

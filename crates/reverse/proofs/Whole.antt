@@ -1,0 +1,129 @@
+-- All instances tried in turn: what is found on the record is what the definition of the reverse lookup says of the view on paper.
+use Prim.Native.Nat.{ℕ, _+_, _*_, _/_, _%_, _≤_, _<_}
+use mathlib.Core.Bool.{cond}
+use mathlib.Core.Path.{_≡_, sym, ap, _∙_}
+use native.Mathlib.Omega.{arith}
+use borrow.Author.Needs.{needs}
+use lib.IntN.{pos}
+use lib.ListN.{getD}
+use mir.Syntax.{w64}
+use mir.Val.{Fits}
+use Rattle.laws.specs.Lists.{nth}
+use Rattle.laws.specs.Search.{total}
+use Rattle.laws.proofs.Sums.{total-same}
+use Rattle.laws.proofs.Quotients.{run-div, run-mod, run-below}
+use Rattle.view.specs.declared.Offset.{Offset}
+use Rattle.view.specs.declared.Owner.{Owner}
+use Rattle.view.specs.declared.Owner.the-variants.{Pair, Nobody}
+use Rattle.view.specs.declared.View.{View}
+use Rattle.view.specs.Types.{paper, entries, widthAt}
+use Rattle.view.specs.Rules.{Kept}
+use Rattle.view.specs.Places.{packedBefore}
+use Rattle.view.specs.Owners.{entryStart, offsetIn, indexIn, hits, hitEntry, ownerOf}
+use Rattle.view.proofs.Paper.{paper-entries, paper-file-entries, paper-width, paper-displacement, paper-file-width, paper-file-displacement, paper-file-extent, paper-start, paper-instances, paper-origin}
+use Rattle.view.proofs.Accepted.{Facts, facts, instances-few, origin-small}
+use Rattle.reverse.specs.Parts.{firstOwner, entryOwner, ownerAt, instanceOwner, InstanceKept}
+use Rattle.reverse.proofs.Firsts.{first-runs, first-same, first-searched, Missed, missed-none, missed-more, missed-stop, missed-end}
+
+-- what instance g answers, on the record
+unfoldable pub ownerFrom : View → ℕ → ℕ → Owner
+ownerFrom v b g = instanceOwner (v .etype) (v .filetype) g (v .displacement + nth (v .filetype .origins) g) b
+
+module _ (v : View) (k : Kept (paper v)) where
+  kept : Facts (paper v)
+  kept = facts (paper v) k
+
+  some-entry : 0 < v .etype .entries
+  some-entry = omega (arith, paper-entries v, kept .some)
+
+  few-instances : v .filetype .instances ≤ 64
+  few-instances = omega (arith, paper-instances v some-entry, instances-few (paper v) kept)
+
+  record-origin : (g : ℕ) → g < v .filetype .instances → nth (v .filetype .origins) g < 1048576
+  record-origin g l = omega (arith, paper-origin v some-entry g l, origin-small (paper v) kept g (omega (arith, paper-instances v some-entry)))
+
+  record-entry : (i : ℕ) → i < v .etype .entries → nth (v .etype .displacements) i + nth (v .etype .widths) i ≤ 1048576
+  record-entry i l = omega (arith, paper-displacement v i l, paper-width v i l, kept .ends i (omega (arith, paper-entries v)))
+
+  -- ---- what the loop over instances needs
+
+  module _ (g : ℕ) (l : g < v .filetype .instances) where
+    pub origin-held : g < 64
+    origin-held = omega (arith, few-instances)
+
+    pub origin-scaled : Fits w64 (g * 8)
+    origin-scaled = record { fits = omega (arith, few-instances) }
+
+    pub begin-fits : Fits w64 (v .displacement + getD (v .filetype .origins) g 0)
+    begin-fits = record { fits = omega (arith, record-origin g l, paper-start v, kept .start) }
+
+    pub instance-kept : InstanceKept (v .etype) (v .filetype) g (v .displacement + getD (v .filetype .origins) g 0)
+    instance-kept = record {
+      tile = record { extent = omega (arith, paper-file-extent v, kept .file-extent .0); instance = l; few = few-instances };
+      begins = omega (arith, record-origin g l, paper-start v, kept .start);
+      entries-few = omega (arith, paper-entries v, kept .few);
+      ends = record-entry;
+    }
+
+  -- ---- the answers of the entries
+
+  -- entry i of the filetype, on paper
+  fileOwner : ℕ → ℕ → Owner
+  fileOwner b i = cond (hits (paper v) b i) (Pair (record { 0 = pos (offsetIn (paper v) b i) }) (indexIn (paper v) b i)) Nobody
+
+  searched : (b : ℕ) → firstOwner (fileOwner b) (entries (paper v .filetype)) ≡ ownerOf (paper v) b
+  unfolding fileOwner ownerOf hitEntry
+  searched b = first-searched (hits (paper v) b) (λ i. record { 0 = pos (offsetIn (paper v) b i) }) (indexIn (paper v) b) (entries (paper v .filetype))
+
+  -- entry i of instance g
+  module _ (b g i : ℕ) (lg : g < v .filetype .instances) (li : i < v .etype .entries) where
+    place : g * v .etype .entries + i < v .filetype .instances * v .etype .entries
+    place = run-below (v .filetype .instances) (v .etype .entries) g i lg li
+
+    group : (g * v .etype .entries + i) / v .etype .entries ≡ g
+    group = run-div (v .etype .entries) g i li
+
+    entry : (g * v .etype .entries + i) % v .etype .entries ≡ i
+    entry = run-mod (v .etype .entries) g i li
+
+    start-is : entryStart (paper v) (g * v .etype .entries + i) ≡ v .displacement + nth (v .filetype .origins) g + nth (v .etype .displacements) i
+    unfolding entryStart
+    start-is = rw (paper-file-displacement v (g * v .etype .entries + i) place, group, entry, paper-start v) (omega arith)
+
+    width-is : widthAt (paper v .filetype) (g * v .etype .entries + i) ≡ nth (v .etype .widths) i
+    width-is = rw (paper-file-width v (g * v .etype .entries + i) place, entry)
+
+    packed-is : packedBefore (paper v .etype) i ≡ total (nth (v .etype .widths)) i
+    unfolding packedBefore
+    packed-is = total-same (widthAt (paper v .etype)) (nth (v .etype .widths)) i (λ j q. paper-width v j (omega arith))
+
+    entry-same : fileOwner b (g * v .etype .entries + i) ≡ ownerAt (v .etype) (v .filetype) g (v .displacement + nth (v .filetype .origins) g) b i
+    unfolding fileOwner hits offsetIn indexIn ownerAt entryOwner
+    entry-same = rw (start-is, width-is, paper-file-extent v, paper-instances v some-entry, paper-entries v, group, entry, packed-is)
+
+  pub owner-is : (b : ℕ) → firstOwner (ownerFrom v b) (v .filetype .instances) ≡ ownerOf (paper v) b
+  unfolding ownerFrom instanceOwner
+  owner-is b =
+      first-same _ _ (v .filetype .instances) (λ g l. first-same _ _ (v .etype .entries) (λ i q. sym (entry-same b g i l q)))
+      ∙ sym (first-runs (fileOwner b) (v .filetype .instances) (v .etype .entries))
+      ∙ ap (firstOwner (fileOwner b)) (sym (paper-file-entries v))
+      ∙ searched b
+
+  -- ---- what the loop returns
+
+  module _ (b g : ℕ) (m : Missed (ownerFrom v b) g (v .filetype .instances)) where
+    pub lookup-end : v .filetype .instances ≤ g → Nobody ≡ ownerOf (paper v) b
+    lookup-end l = missed-end (ownerFrom v b) (v .filetype .instances) g m l ∙ owner-is b
+
+    module _ (l : g < v .filetype .instances) (r : Owner) (h : r ≡ instanceOwner (v .etype) (v .filetype) g (v .displacement + getD (v .filetype .origins) g 0) b) where
+      answered : r ≡ ownerFrom v b g
+      unfolding ownerFrom
+      answered = h
+
+      pub lookup-more : r ≡ Nobody → Missed (ownerFrom v b) (g + 1) (v .filetype .instances)
+      lookup-more q = missed-more (ownerFrom v b) (v .filetype .instances) g m l r answered q
+
+      pub lookup-stop : (x : Offset) (j : ℕ) → r ≡ Pair x j → r ≡ ownerOf (paper v) b
+      lookup-stop x j q = missed-stop (ownerFrom v b) (v .filetype .instances) g m l r answered x j q ∙ owner-is b
+
+pub ruleset looking = (needs, missed-none, lookup-end, lookup-more, lookup-stop, origin-held, origin-scaled, begin-fits, instance-kept)

@@ -1,0 +1,81 @@
+// The reverse lookup: the pair of offset and index in the packed data that a file byte belongs to.
+// Each entry of the filetype is tried for all tiles at once, by a remainder: the cost depends on the number of entries alone, and places need not rise with the offset.
+ghost use mathlib.Core.Path.{_≡_};
+ghost use Prim.Native.Nat.{_+_, _<_};
+ghost use Rattle.view.specs.Types.{paper};
+ghost use Rattle.view.specs.Rules.{Kept};
+ghost use Rattle.view.specs.Owners.{ownerOf};
+ghost use Rattle.reverse.specs.Parts.{entryOwner, instanceOwner, InstanceIn, InstanceKept};
+use view::BytePos;
+use view::Etype;
+use view::Filetype;
+use view::Owner;
+use view::View;
+
+// The pair of byte `b` if it lies, in some tile, in an entry of instance `g`, or none.
+// In the first tile the entry begins at `start`; `packed` bytes stand before it in the packed data.
+fn owner_in_entry(f: Filetype, g: u64, start: BytePos, width: u64, packed: u64, b: BytePos) -> Owner
+    requires { ⌜ InstanceIn f g × (packed + width < 18446744073709551616) ⌝ }
+    ensures { λ r. ⌜ r ≡ entryOwner f g (start .0) width packed (b .0) ⌝ }
+{
+    if b.0 < start.0 {
+        return Owner::Nobody;
+    }
+    let distance = b.0 - start.0;
+    let rest = distance % f.extent;
+    if width <= rest {
+        return Owner::Nobody;
+    }
+    let tile = distance / f.extent;
+    // Past this no offset of the tile is allowed, and the product below need not fit.
+    if View::OFFSET_COUNT <= tile {
+        return Owner::Nobody;
+    }
+    let before = tile * f.instances;
+    let offset = before + g;
+    if View::OFFSET_COUNT <= offset {
+        return Owner::Nobody;
+    }
+    let index = packed + rest;
+    Owner::Pair(view::to_offset(offset), index)
+}
+
+// The pair of byte `b` if it lies, in some tile, in instance `g`, or none. In the first tile the instance begins at `begin`.
+fn owner_in_instance(e: Etype, f: Filetype, g: u64, begin: BytePos, b: BytePos) -> Owner
+    requires { ⌜ InstanceKept e f g (begin .0) ⌝ }
+    ensures { λ r. ⌜ r ≡ instanceOwner e f g (begin .0) (b .0) ⌝ }
+{
+    let n = e.entries as usize;
+    let mut packed = 0;
+    let mut i = 0;
+    while i < n {
+        let width = e.widths[i];
+        let start = begin.0 + e.displacements[i];
+        let owner = owner_in_entry(f, g, BytePos(start), width, packed, b);
+        if let Owner::Pair(_, _) = owner {
+            return owner;
+        }
+        packed += width;
+        i += 1;
+    }
+    Owner::Nobody
+}
+
+// The pair that file byte `b` belongs to, or none: each entry of the filetype is tried in turn. For our own crates.
+pub fn owner_of(v: View, b: BytePos) -> Owner
+    requires { ⌜ Kept (paper v) ⌝ }
+    ensures { λ r. ⌜ r ≡ ownerOf (paper v) (b .0) ⌝ }
+{
+    let etype = v.etype;
+    let filetype = v.filetype;
+    let mut g = 0;
+    while g < filetype.instances {
+        let begin = v.displacement + filetype.origins[g as usize];
+        let owner = owner_in_instance(etype, filetype, g, BytePos(begin), b);
+        if let Owner::Pair(_, _) = owner {
+            return owner;
+        }
+        g += 1;
+    }
+    Owner::Nobody
+}
