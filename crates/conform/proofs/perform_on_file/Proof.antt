@@ -1,5 +1,6 @@
 -- `perform_on_file` tests the tag in the order of the definition. Assumes nothing.
-use Rattle.laws.proofs.Booleans.{tests, cond-yes, cond-no}
+use borrow.Author.Tests.{eq-eqb, ne-eqb}
+use Rattle.laws.proofs.Booleans.{cond-yes, cond-no}
 use Rattle.conform.specs.Script.{fileLineFor}
 use borrow.Author.Needs.{needs}
 use Rattle.conform.proofs.perform_on_file.Statement.{statement}
@@ -10,28 +11,28 @@ end-line-requires c κs = search needs
 
 returns : tie.Need-returns
 unfolding fileLineFor
-returns c = search (tests, cond-yes, cond-no)
+returns c = search (eq-eqb, ne-eqb, cond-yes, cond-no)
 
 seek-line-requires : tie.Need-seek-line-requires
 seek-line-requires c κs = search needs
 
 returns-2 : tie.Need-returns-2
 unfolding fileLineFor
-returns-2 c = search (tests, cond-yes, cond-no)
+returns-2 c = search (eq-eqb, ne-eqb, cond-yes, cond-no)
 
 read-at-line-requires : tie.Need-read-at-line-requires
 read-at-line-requires c κs = search needs
 
 returns-3 : tie.Need-returns-3
 unfolding fileLineFor
-returns-3 c = search (tests, cond-yes, cond-no)
+returns-3 c = search (eq-eqb, ne-eqb, cond-yes, cond-no)
 
 read-line-requires : tie.Need-read-line-requires
 read-line-requires c κs = search needs
 
 returns-4 : tie.Need-returns-4
 unfolding fileLineFor
-returns-4 c = search (tests, cond-yes, cond-no)
+returns-4 c = search (eq-eqb, ne-eqb, cond-yes, cond-no)
 
 pub perform-on-file-spec : {M : Type 1} → statement M
 perform-on-file-spec =

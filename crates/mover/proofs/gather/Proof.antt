@@ -1,6 +1,6 @@
 -- `gather` copies each etype that lies in the file and stops at the first that does not. Assumes nothing.
 use Prim.Native.Nat.{_-_}
-use Rattle.mover.proofs.Gathering.{Gathering, gathering}
+use Rattle.mover.proofs.Gathering.{Gathering, from-fits, from-inside, gather-lies, gather-more, gathering}
 use Rattle.mover.proofs.gather.Statement.{statement}
 use Rattle.mover.proofs.gather.Tie as tie
 
@@ -50,19 +50,19 @@ sub-from : tie.Need-sub-from Inv-loop μ-loop
 sub-from c = search gathering
 
 mul-from : tie.Need-mul-from Inv-loop μ-loop
-mul-from c = search gathering
+mul-from c = search from-fits
 
 sub-copy-out : tie.Need-sub-copy-out Inv-loop μ-loop
 sub-copy-out c = search gathering
 
 part-copy-out-start : tie.Need-part-copy-out-start Inv-loop μ-loop
-part-copy-out-start c = search gathering
+part-copy-out-start c = search from-inside
 
 part-copy-out-end : tie.Need-part-copy-out-end Inv-loop μ-loop
 part-copy-out-end c = search gathering
 
 copy-out-requires : tie.Need-copy-out-requires Inv-loop μ-loop
-copy-out-requires c κs = search gathering
+copy-out-requires c κs = search gather-lies
 
 next-spot-requires : tie.Need-next-spot-requires Inv-loop μ-loop
 next-spot-requires c κs = search gathering
@@ -74,7 +74,7 @@ loop-less : tie.Need-loop-less Inv-loop μ-loop
 loop-less c = search gathering
 
 loop-again : tie.Need-loop-again Inv-loop μ-loop
-loop-again c = search gathering
+loop-again c = search gather-more
 
 same-length-2 : tie.Need-same-length-2 Inv-loop μ-loop
 same-length-2 c = search gathering

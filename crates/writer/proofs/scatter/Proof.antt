@@ -1,6 +1,6 @@
 -- `scatter` stores each etype's data at its place; the etype lies in the file, as the write's end does. Assumes nothing.
 use Prim.Native.Nat.{_-_}
-use Rattle.writer.proofs.Scattering.{Scattering, scattering}
+use Rattle.writer.proofs.Scattering.{Scattering, from-fits, from-inside, scatter-lies, scatter-more, scattering}
 use Rattle.writer.proofs.scatter.Statement.{statement}
 use Rattle.writer.proofs.scatter.Tie as tie
 
@@ -35,19 +35,19 @@ sub-from : tie.Need-sub-from Inv-loop μ-loop
 sub-from c = search scattering
 
 mul-from : tie.Need-mul-from Inv-loop μ-loop
-mul-from c = search scattering
+mul-from c = search from-fits
 
 sub-copy-in : tie.Need-sub-copy-in Inv-loop μ-loop
 sub-copy-in c = search scattering
 
 part-copy-in-start : tie.Need-part-copy-in-start Inv-loop μ-loop
-part-copy-in-start c = search scattering
+part-copy-in-start c = search from-inside
 
 part-copy-in-end : tie.Need-part-copy-in-end Inv-loop μ-loop
 part-copy-in-end c = search scattering
 
 copy-in-requires : tie.Need-copy-in-requires Inv-loop μ-loop
-copy-in-requires c κs = search scattering
+copy-in-requires c κs = search scatter-lies
 
 next-spot-requires : tie.Need-next-spot-requires Inv-loop μ-loop
 next-spot-requires c κs = search scattering
@@ -59,7 +59,7 @@ loop-less : tie.Need-loop-less Inv-loop μ-loop
 loop-less c = search scattering
 
 loop-again : tie.Need-loop-again Inv-loop μ-loop
-loop-again c = search scattering
+loop-again c = search scatter-more
 
 same-length : tie.Need-same-length Inv-loop μ-loop
 same-length c = search scattering
