@@ -6,7 +6,7 @@ use mathlib.Core.Logic.{⊎-elim}
 use mathlib.Core.Path.{_≡_, sym, ap, _∙_}
 use native.Mathlib.Nat.{mod-lt, div-mul-le-self, mul-le-mul-right}
 use native.Mathlib.Omega.{arith}
-use borrow.Author.Needs.{needs, sfits-of}
+use borrow.Author.Needs.{sfits-of}
 use borrow.Author.Tests.{eq-eqb, ne-eqb}
 use lib.Dec.{eqb}
 use lib.IntN.{ℤ, pos}
@@ -17,8 +17,7 @@ use mir.Val.{Fits, toZ, ofZ, hbits}
 use mir.Facts.{toZ-ofZ}
 use Rattle.laws.specs.Lists.{nth, front}
 use Rattle.laws.proofs.Booleans.{tests, also-yes, also-no, unflag-true, unflag-false, eq-or-ne}
-use Rattle.laws.proofs.Searching.{Passed, passed-none, passed-more, passed-fails, passed-holds}
-use Rattle.laws.proofs.Stores.{store-none, store-more, store-end}
+use Rattle.laws.proofs.Searching.{Passed, passed-fails, passed-holds}
 use Rattle.laws.proofs.Quotients.{times-more}
 use Rattle.view.specs.declared.Etype.{Etype}
 use Rattle.view.specs.declared.Filetype.{Filetype}
@@ -30,8 +29,6 @@ use Rattle.accept.specs.Parts.{wholeAt, heldEtype, entryShifted, builtAt
 pub whole-read : (ds : List ℤ) (i d : ℕ) → mag (getD ds i (pos 0)) < 2 ^ hbits w64 → d ≡ whole (toZ w64 (ofZ w64 (getD ds i (pos 0)))) → d ≡ wholeAt ds i
 unfolding wholeAt
 whole-read ds i d m e = e ∙ ap whole (toZ-ofZ {w = w64} {z = getD ds i (pos 0)} (sfits-of m))
-
-pub ruleset copying = (needs, store-none, store-more, store-end, whole-read)
 
 -- ---- an entry of a group
 
@@ -74,16 +71,11 @@ entry-in i n s l = omega (arith, mod-lt i {m = n} s)
 pub entry-scaled : (j : ℕ) → j < 8 → Fits w64 (j * 8)
 entry-scaled j l = record { fits = omega arith }
 
-pub begin-in : (i n m : ℕ) → i < m → i / n * n < m
-begin-in i n m l = omega (arith, div-mul-le-self i n)
-
 pub begin-fits : (i n m : ℕ) → i < m → m < 2 ^ 64 → Fits w64 (i / n * n)
 begin-fits i n m l h = record { fits = omega (arith, div-mul-le-self i n) }
 
 pub begin-pairs : (i n : ℕ) (a b : List ℕ) → length a ≡ length b → i < length b → i / n * n < length a
 begin-pairs i n a b e l = omega (arith, div-mul-le-self i n)
-
-pub ruleset grouping = (needs, passed-none, passed-more, built-yes, built-no, groups-uneven, groups-fail, groups-hold, entry-in, entry-scaled, begin-in, begin-fits, begin-pairs)
 
 -- ---- the etype's record
 
@@ -110,8 +102,3 @@ filetype-made fd n first x k g ps p a b e =
     let q : g ≡ length fd / n = omega arith in
     let r : ps ≡ front (groupOrigin fd n first) (length fd / n) (replicate 64 0) = p ∙ ap (λ (z : ℕ). front (groupOrigin fd n first) z (replicate 64 0)) q in
     λ i. record { instances = e i; origins = r i; extent = x }
-
-pub origin-below : (g k : ℕ) → g < k → k ≤ 64 → g < 64
-origin-below g k l h = omega arith
-
-pub ruleset originating = (needs, store-none, store-more, store-end, group-in, group-fits, origin-is, origin-below)

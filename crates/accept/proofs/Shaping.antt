@@ -44,7 +44,7 @@ module _ (e : Etype) (fw fd : List ℕ) (f : Filetype) (s : ShapesReady e fw fd 
           let q : length fd / e .entries ≡ 0 = sym (s .groups) ∙ z in
           omega (arith, s .some, s .pairs, even, div-add-mod' (length fd) (e .entries), ap (λ (x : ℕ). x * e .entries) q, zero-mul (e .entries), ap (λ (x : ℕ). x % e .entries) (s .pairs))
 
-  pub shape-ready : ShapeKept e f
+  pub shape-ready : ShapeKept (e .entries) (e .widths) (e .displacements) (f .instances) (f .origins) (f .extent)
   shape-ready = record {
     entries = s .entries;
     origins = record { some = instances-some; few = s .few; small = s .small };

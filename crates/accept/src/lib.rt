@@ -159,13 +159,20 @@ fn shapes_refusal(mode: u64, e: Etype, fw: &[u64], fd: &[u64], f: Filetype) -> u
     if !is_built(e, fw, fd) {
         return Accepted::BUILT;
     }
-    if !rules::holes_fit(f, e.extent) {
+    if !rules::holes_fit(f.instances, &f.origins, f.extent, e.extent) {
         return Accepted::HOLE;
     }
     if !rules::writes(mode) {
         return 0;
     }
-    if !held::shape_apart(e, f) {
+    if !held::shape_apart(
+        e.entries,
+        &e.widths,
+        &e.displacements,
+        f.instances,
+        &f.origins,
+        f.extent,
+    ) {
         return Accepted::OVERLAP;
     }
     0

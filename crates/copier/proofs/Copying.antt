@@ -1,44 +1,59 @@
 -- The data of one etype, entry by entry: no sum wraps, each entry lies inside, and the entries' runs make up the packed data.
 use Prim.Native.Nat.{ℕ, _+_, _-_, _*_, _^_, _≤_, _<_}
+use mathlib.Core.Bool.{Bool, true, false, false≢true}
 use mathlib.Core.List.{List}
 use mathlib.Core.Logic.{_⊎_, inl, inr, ⊎-elim}
 use mathlib.Core.Path.{_≡_, refl, sym, ap, _∙_}
-use native.Mathlib.Nat.{mul-le-mul}
+use native.Mathlib.Nat.{mul-le-mul, add-zero}
 use native.Mathlib.Omega.{arith}
 use borrow.Author.Needs.{needs}
+use borrow.Author.Tests.{eqb-true, ne-eqb}
+use lib.Dec.{eqb}
 use lib.IntN.{pos}
 use lib.ListN.{length, getD, set, length-set}
 use mir.Syntax.{w64}
 use mir.Val.{Fits}
+use Rattle.laws.specs.Checks.{either}
 use Rattle.laws.specs.Lists.{nth, store}
 use Rattle.laws.specs.Search.{total}
 use Rattle.laws.proofs.Stores.{store-none, store-more, store-end, length-tabulate, tabulate-at}
 use Rattle.laws.proofs.Runs.{store-run}
 use Rattle.laws.proofs.Sums.{greatest-above, total-more, total-part, total-same, total-most}
+use Rattle.view.specs.Limits.{widthAllowed}
 use Rattle.view.specs.Types.{entries, widthAt, displacementAt, whole}
 use Rattle.view.specs.Places.{packedBefore, dataAt}
+use Rattle.view.proofs.Accepted.{width-small}
 use Rattle.view.proofs.Packing.{data-run}
 use Rattle.rules.specs.Parts.{EntriesKept, entryEnd, reachOf}
-use Rattle.copier.specs.Parts.{onward, byteFrom, always, typeOf, sizeOf, placeIn, byteIn, Lies}
+use Rattle.copier.specs.Parts.{onward, byteFrom, always, typeOf, WidthsKept, sizeOf, placeIn, byteIn, Lies}
 
 -- ---- a run of bytes
 
-pub onward-is : (a k : ℕ) → a + k ≡ onward a k
-unfolding onward
-onward-is a k = refl
+-- a run of a known width
+pub run-of : (place value : ℕ → ℕ) (width k : ℕ) (l₀ l : List ℕ) → width ≡ k → l ≡ store place value k l₀ → l ≡ store place value width l₀
+run-of place value width k l₀ l e q = q ∙ ap (λ (z : ℕ). store place value z l₀) (sym e)
 
-pub byte-from : (l : List ℕ) (a k : ℕ) → getD l (a + k) 0 ≡ byteFrom l a k
-unfolding byteFrom
-byte-from l a k = refl
+-- two runs of four are one of eight
+pub run-twice : (source : List ℕ) (from to : ℕ) (l₀ l l' : List ℕ) → l ≡ store (onward to) (byteFrom source from) 4 l₀ → l' ≡ store (onward (to + 4)) (byteFrom source (from + 4)) 4 l → l' ≡ store (onward to) (byteFrom source from) 8 l₀
+unfolding onward byteFrom
+run-twice source from to l₀ l l' p q = store-run (onward to) (byteFrom source from) (onward (to + 4)) (byteFrom source (from + 4)) 4 4 l₀ l l' p q (λ k s. omega arith) (λ k s. ap (nth source) (omega arith))
 
--- place k of a run of w lies inside
-pub run-inside : (a k w n : ℕ) → a + w ≤ n → k < w → a + k < n
-run-inside a k w n h l = omega arith
+-- the one width left
+width-one : (w : ℕ) → widthAllowed w ≡ true → (w ≡ 4 → ⊥) → (w ≡ 8 → ⊥) → (w ≡ 2 → ⊥) → w ≡ 1
+unfolding widthAllowed either
+width-one w h n4 n8 n2 = go (eqb w 1) refl (rw (ne-eqb w 2 n2, ne-eqb w 4 n4, ne-eqb w 8 n8) at h)
+  where
+    go : (b : Bool) → eqb w 1 ≡ b → either b (either false (either false false)) ≡ true → w ≡ 1
+    go true e q = eqb-true w 1 e
+    go false e q = absurd (false≢true q)
 
-pub run-fits : (a k w n : ℕ) → a + w ≤ n → k < w → n < 2 ^ 64 → Fits w64 (a + k)
-run-fits a k w n h l b = record { fits = omega arith }
+-- a run of an allowed width has a first place
+pub run-first : (a w n : ℕ) → widthAllowed w ≡ true → a + w ≤ n → a < n
+run-first a w n h l = omega (arith, width-small w h)
 
-pub ruleset running = (needs, store-none, store-more, store-end, onward-is, byte-from, run-inside, run-fits)
+pub run-one : (source : List ℕ) (from to width : ℕ) (l : List ℕ) → widthAllowed width ≡ true → (width ≡ 4 → ⊥) → (width ≡ 8 → ⊥) → (width ≡ 2 → ⊥) → set l to (getD source from 0) ≡ store (onward to) (byteFrom source from) width l
+unfolding store onward byteFrom
+run-one source from to width l h n4 n8 n2 = rw (width-one width h n4 n8 n2) (simp add-zero)
 
 -- ---- the entries of an etype
 
@@ -60,7 +75,10 @@ module _ (n : ℕ) (ws : List ℕ) where
     unfolding sizeOf
     summed-end l = h .is ∙ ap (total (nth ws)) (omega (arith, h .reached))
 
-  module _ (ds : List ℕ) (k : EntriesKept n ws ds) where
+  pub widths-kept : (ds : List ℕ) → EntriesKept n ws ds → WidthsKept n ws
+  widths-kept ds k = record { few = k .few; small = λ i l. omega (arith, k .ends i l) }
+
+  module _ (k : WidthsKept n ws) where
     pub entry-held : (i : ℕ) → i < n → i < 8
     entry-held i l = omega (arith, k .few)
 
@@ -69,12 +87,12 @@ module _ (n : ℕ) (ws : List ℕ) where
 
     sum-small : (i s : ℕ) → Summed ws n i s → s ≤ 8388608
     sum-small i s h =
-        let m = total-most (nth ws) i 1048576 (λ j l. omega (arith, k .ends j (omega (arith, h .reached)))) in
+        let m = total-most (nth ws) i 1048576 (λ j l. k .small j (omega (arith, h .reached))) in
         let b = mul-le-mul {n₁ = i} {m₁ = 1048576} {n₂ = 8} {m₂ = 1048576} (omega (arith, h .reached, k .few)) (omega arith) in
         omega (arith, h .is)
 
     pub sum-fits : (i s : ℕ) → Summed ws n i s → i < n → Fits w64 (s + getD ws i 0)
-    sum-fits i s h l = record { fits = omega (arith, sum-small i s h, k .ends i l) }
+    sum-fits i s h l = record { fits = omega (arith, sum-small i s h, k .small i l) }
 
 pub ruleset summing = (needs, summed-none, summed-more, summed-end, entry-held, entry-scaled, sum-fits)
 
@@ -123,10 +141,13 @@ module _ (n : ℕ) (ws ds : List ℕ) where
 
       module _ (l : i < n) where
         pub copying-held : i < 8
-        copying-held = entry-held n ws ds (h .lies .kept) i l
+        copying-held = entry-held n ws (widths-kept n ws ds (h .lies .kept)) i l
+
+        pub copying-width : widthAllowed (getD ws i 0) ≡ true
+        copying-width = h .lies .allowed i l
 
         pub copying-scaled : Fits w64 (i * 8)
-        copying-scaled = entry-scaled n ws ds (h .lies .kept) i l
+        copying-scaled = entry-scaled n ws (widths-kept n ws ds (h .lies .kept)) i l
 
         -- entry i lies in the file
         pub file-inside : a + getD ds i 0 + getD ws i 0 ≤ len

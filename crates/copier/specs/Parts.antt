@@ -1,9 +1,12 @@
 -- What the copiers of one etype move. A reader need not believe these: the contracts of calls cite `byteOf` and `dataSize`, and the proofs show that these make them up.
-use Prim.Native.Nat.{ℕ, _+_, _≤_}
+use Prim.Native.Nat.{ℕ, _+_, _≤_, _<_}
+use mathlib.Core.Bool.{true}
 use mathlib.Core.List.{List}
+use mathlib.Core.Path.{_≡_}
 use lib.IntN.{pos}
 use Rattle.laws.specs.Search.{total}
 use Rattle.laws.specs.Lists.{nth, tabulate}
+use Rattle.view.specs.Limits.{maxEtypeEntries, maxEntryEnd, widthAllowed}
 use Rattle.view.specs.Types.{PaperType}
 use Rattle.view.specs.Places.{dataAt}
 use Rattle.rules.specs.Parts.{EntriesKept, reachOf}
@@ -16,6 +19,11 @@ onward a k = a + k
 unfoldable pub byteFrom : List ℕ → ℕ → ℕ → ℕ
 byteFrom l a k = nth l (a + k)
 
+-- a run of `width` places from `from` on lies within one list, and one from `to` on within another, by their lengths
+pub record Runs (there from here to width : ℕ) : Type 0 where
+  pub source : from + width ≤ there
+  pub target : to + width ≤ here
+
 -- one value for each place
 unfoldable pub always : ℕ → ℕ → ℕ
 always x k = x
@@ -23,6 +31,11 @@ always x k = x
 -- n entries of widths ws and displacements ds, as a type; its extent plays no part in where its data lie
 unfoldable pub typeOf : ℕ → List ℕ → List ℕ → PaperType
 typeOf n ws ds = record { widths = tabulate (nth ws) n; displacements = tabulate (λ i. pos (nth ds i)) n; extent = pos 0 }
+
+-- n entries, none wider than the limit on an entry's end
+pub record WidthsKept (n : ℕ) (ws : List ℕ) : Type 0 where
+  pub few : n ≤ maxEtypeEntries
+  pub small : (i : ℕ) → i < n → nth ws i ≤ maxEntryEnd
 
 -- S
 unfoldable pub sizeOf : ℕ → List ℕ → ℕ
@@ -39,5 +52,6 @@ byteIn n ws ds file a j = nth file (placeIn n ws ds a j)
 -- an etype that begins at a lies within len bytes, and its data fit into `room`
 pub record Lies (n : ℕ) (ws ds : List ℕ) (a len room : ℕ) : Type 0 where
   pub kept : EntriesKept n ws ds
+  pub allowed : (i : ℕ) → i < n → widthAllowed (nth ws i) ≡ true
   pub inside : a + reachOf ws ds n ≤ len
   pub fits : sizeOf n ws ≤ room

@@ -16,10 +16,10 @@ use Rattle.laws.proofs.Booleans.{lt-or-le, also-no, check-yes, check-no, check-
 use Rattle.view.specs.Limits.{pointerAllowed}
 use Rattle.view.specs.Types.{paper, whole}
 use Rattle.view.specs.Places.{dataSize}
-use Rattle.rules.specs.Parts.{EntriesKept}
 use Rattle.ranges.specs.Ranges.{accessAllowed}
 use Rattle.ranges.proofs.Ranging.{access-sum, access-offset}
-use Rattle.copier.specs.Parts.{sizeOf}
+use Rattle.copier.specs.Parts.{WidthsKept, sizeOf}
+use Rattle.copier.proofs.Copying.{widths-kept}
 use Rattle.mover.specs.Parts.{Movable}
 use Rattle.mover.proofs.Etypes.{entries-kept, data-is, data-small}
 use Rattle.file.specs.declared.Handle.{Handle}
@@ -27,7 +27,7 @@ use Rattle.file.specs.declared.FileRecord.{FileRecord}
 use Rattle.file.specs.Handles.{viewOf, fileKept, startOf}
 use Rattle.file.specs.Refusals.{accessRefusal}
 use Rattle.file.specs.Parts.{checkedAccess}
-use Rattle.file.proofs.Checking.{judged-file-view, file-kept-view, file-short, file-limit, pointer-high}
+use Rattle.file.proofs.Checking.{judged-file-view, file-kept-view, file-short, file-limit, pointer-high, limits-false}
 
 -- ---- the checks
 
@@ -47,8 +47,8 @@ module _ (u : Bool) (h : Handle) (len : ℕ) (r : FileRecord) (o : ℤ) (c room 
   access-handle n = check-no _ 1 _ 1 (unflag-false t _ k n) refl
 
   module _ (n : not t ≡ false) where
-    pub access-entries : EntriesKept (h .view .etype .entries) (h .view .etype .widths) (h .view .etype .displacements)
-    access-entries = entries-kept (h .view) (judged-file-view h len r t k n)
+    pub access-widths : WidthsKept (h .view .etype .entries) (h .view .etype .widths)
+    access-widths = widths-kept _ _ _ (entries-kept (h .view) (judged-file-view h len r t k n))
 
     pub access-mode : not u ≡ true → 11 ≡ checkedAccess u h len r o c room
     unfolding checkedAccess
@@ -68,7 +68,7 @@ module _ (u : Bool) (h : Handle) (len : ℕ) (r : FileRecord) (o : ℤ) (c room 
         unfolding checkedAccess accessRefusal viewOf
         access-granted l = check-yes _ 1 _ 0 (unflag-true t _ k n) (check-yes _ 11 _ 0 (unflag-true u _ refl m) (check-yes _ 12 _ 0 (unflag-true w _ b q) (check-yes _ 13 _ 0 (le-leb (c * dataSize (paper (h .view))) room (rw (size-is h len r o c t k n s e) at l)) refl)))
 
-pub ruleset accessing = (needs, access-handle, access-entries, access-mode, access-range, bytes-fit, access-room, access-granted)
+pub ruleset accessing = (needs, access-handle, access-widths, access-mode, access-range, bytes-fit, access-room, access-granted)
 
 -- ---- what they leave
 
@@ -136,7 +136,7 @@ pub ruleset starting = (needs, start-past, start-at, start-small)
 -- check 1 refuses a pointer that is no offset
 pub past-kept : (h : Handle) (len : ℕ) (r : FileRecord) → 4294967296 < h .pointer → fileKept h len r ≡ false
 unfolding fileKept
-past-kept h len r l = sym (also-no _ _ (sym (pointer-high h l)))
+past-kept h len r l = sym (also-no _ _ (sym (limits-false h (sym (pointer-high (h .mode) (h .pointer) l)))))
 
 -- what does not go by the offset where it refuses is the same at the pointer and where the access begins
 pub start-same : {A : Type 0} (h : Handle) (f : ℤ → A) → (4294967296 < h .pointer → (a b : ℤ) → f a ≡ f b) → f (startOf h) ≡ f (pos (h .pointer))

@@ -1,12 +1,13 @@
 -- Check 1, and what it leaves: a handle that passes it holds a kept view, and the file keeps its limits.
 use Prim.Native.Nat.{ℕ, _≤_, _<_}
-use mathlib.Core.Bool.{Bool, true, false, not}
-use mathlib.Core.Path.{_≡_, refl, sym}
+use mathlib.Core.Bool.{Bool, true, false, not, false≢true}
+use mathlib.Core.Path.{_≡_, refl, sym, _∙_}
 use native.Mathlib.Omega.{arith}
 use borrow.Author.Needs.{needs}
 use borrow.Author.Tests.{leb-true, le-leb, lt-leb, eq-eqb, ne-eqb}
 use lib.Dec.{leb, eqb}
-use Rattle.laws.proofs.Booleans.{also-yes, also-no, also-inv, also-false, within-low, within-high, within-yes, unflag-true, unflag-false, cond-yes, cond-no, either-yes, either-else}
+use Rattle.laws.specs.Checks.{also, within}
+use Rattle.laws.proofs.Booleans.{also-yes, also-no, also-inv, also-false, within-low, unflag-true, unflag-false, cond-yes, cond-no, either-yes, either-else}
 use Rattle.view.specs.declared.View.{View}
 use Rattle.view.specs.Limits.{pointerAllowed, fileAllowed}
 use Rattle.view.specs.Types.{paper, defaultView}
@@ -15,6 +16,12 @@ use Rattle.view.proofs.Accepted.{accepted-kept}
 use Rattle.file.specs.declared.Handle.{Handle}
 use Rattle.file.specs.declared.FileRecord.{FileRecord}
 use Rattle.file.specs.Handles.{viewOf, freshHandle, modeGot, handleKept, fileKept}
+use Rattle.file.specs.Parts.{limitsKept}
+
+also-last : (a b u : Bool) → u ≡ a → b ≡ true → u ≡ also a b
+unfolding also
+also-last true b u e h = e ∙ sym h
+also-last false b u e h = e
 
 -- ---- a fresh handle
 
@@ -24,22 +31,41 @@ fresh-is mode v e = λ i. record { mode = mode; pointer = 0; view = e i }
 
 -- ---- check 1 where the file is not looked at
 
+module _ (mode pointer : ℕ) where
+  pub pointer-high : 4294967296 < pointer → false ≡ limitsKept mode pointer
+  unfolding limitsKept pointerAllowed
+  pointer-high l = also-no _ _ (lt-leb pointer 4294967296 l)
+
+  pub mode-low : mode < 1 → false ≡ limitsKept mode pointer
+  unfolding limitsKept modeAllowed
+  mode-low l = sym (also-false _ _ (within-low 1 3 mode l))
+
+  pub mode-high : pointer ≤ 4294967296 → 1 ≤ mode → leb mode 3 ≡ limitsKept mode pointer
+  unfolding limitsKept modeAllowed pointerAllowed within
+  mode-high p a = also-yes _ _ _ (le-leb pointer 4294967296 p) (also-yes _ _ _ (le-leb 1 mode a) refl)
+
+pub ruleset limiting = (needs, pointer-high, mode-low, mode-high)
+
 module _ (h : Handle) where
-  pub mode-low : h .mode < 1 → false ≡ handleKept h
-  unfolding handleKept modeAllowed
-  mode-low l = also-no _ _ (within-low 1 3 (h .mode) l)
+  pub limits-false : limitsKept (h .mode) (h .pointer) ≡ false → false ≡ handleKept h
+  unfolding limitsKept handleKept also
+  limits-false e = go (pointerAllowed (h .pointer)) (modeAllowed (h .mode)) e
+    where
+      go : (p m : Bool) → also p m ≡ false → false ≡ also m (also p (accepted (h .mode) (viewOf h)))
+      go true true e = absurd (false≢true (sym e))
+      go true false e = refl
+      go false true e = refl
+      go false false e = refl
 
-  pub mode-high : 3 < h .mode → false ≡ handleKept h
-  unfolding handleKept modeAllowed
-  mode-high l = also-no _ _ (within-high 1 3 (h .mode) l)
+  module _ (t : Bool) (e : t ≡ limitsKept (h .mode) (h .pointer)) where
+    pub limits-no : not t ≡ true → false ≡ handleKept h
+    limits-no n = limits-false (unflag-false t _ e n)
 
-  pub pointer-high : 4294967296 < h .pointer → false ≡ handleKept h
-  unfolding handleKept pointerAllowed
-  pointer-high l = sym (also-false _ _ (sym (also-no _ _ (lt-leb (h .pointer) 4294967296 l))))
-
-  pub view-judged : (t : Bool) → t ≡ accepted (h .mode) (paper (h .view)) → 1 ≤ h .mode → h .mode ≤ 3 → h .pointer ≤ 4294967296 → t ≡ handleKept h
-  unfolding handleKept modeAllowed pointerAllowed viewOf
-  view-judged t e a b p = also-yes _ _ t (within-yes 1 3 (h .mode) a b) (also-yes _ _ t (le-leb (h .pointer) 4294967296 p) e)
+    pub view-judged : not t ≡ false → (u : Bool) → u ≡ accepted (h .mode) (paper (h .view)) → u ≡ handleKept h
+    unfolding limitsKept handleKept viewOf
+    view-judged n u q =
+        let k = also-inv _ _ (unflag-true t _ e n) in
+        also-yes _ _ u (k .1) (also-yes _ _ u (k .0) q)
 
   module _ (k : handleKept h ≡ true) where
     pub accepts : accepted (h .mode) (paper (h .view)) ≡ true
@@ -63,14 +89,18 @@ module _ (h : Handle) where
     unfolding fileKept fileAllowed
     file-long l = sym (also-false _ _ (sym (also-no _ _ (lt-leb len 1099511627776 l))))
 
-    module _ (t : Bool) (e : t ≡ handleKept h) where
-      pub file-handle : not t ≡ true → false ≡ fileKept h len r
-      unfolding fileKept
-      file-handle n = also-no _ _ (unflag-false t _ e n)
+    pub file-short-of : len < r .size → false ≡ fileKept h len r
+    unfolding fileKept fileAllowed
+    file-short-of l = sym (also-false _ _ (also-false _ _ (lt-leb (r .size) len l)))
 
-      pub file-size : not t ≡ false → len ≤ 1099511627776 → leb (r .size) len ≡ fileKept h len r
+    module _ (t : Bool) (e : t ≡ limitsKept (h .mode) (h .pointer)) where
+      pub file-limits : not t ≡ true → false ≡ fileKept h len r
+      unfolding fileKept
+      file-limits n = also-no _ _ (sym (limits-no t e n))
+
+      pub file-judged : not t ≡ false → len ≤ 1099511627776 → r .size ≤ len → (u : Bool) → u ≡ accepted (h .mode) (paper (h .view)) → u ≡ fileKept h len r
       unfolding fileKept fileAllowed
-      file-size n l = also-yes _ _ _ (unflag-true t _ e n) (also-yes _ _ _ (le-leb len 1099511627776 l) refl)
+      file-judged n l s u q = also-last _ _ u (view-judged t e n u q) (sym (also-yes _ _ true (le-leb len 1099511627776 l) (sym (le-leb (r .size) len s))))
 
     module _ (k : fileKept h len r ≡ true) where
       pub file-kept-handle : handleKept h ≡ true
@@ -98,7 +128,7 @@ module _ (h : Handle) where
       pub judged-size : r .size ≤ 1099511627776
       judged-size = size-limit (unflag-true t _ e n)
 
-pub ruleset keeping = (needs, mode-low, mode-high, pointer-high, view-judged, file-long, file-handle, file-size)
+pub ruleset keeping = (needs, limits-no, view-judged, file-limits, file-long, file-short-of, file-judged)
 
 -- ---- modes
 

@@ -2,7 +2,7 @@
 use Prim.Native.Nat.{ℕ, _*_, _≤_, _<_}
 use mathlib.Core.Bool.{Bool, true, false, not}
 use mathlib.Core.List.{List}
-use mathlib.Core.Path.{_≡_, refl, sym, _∙_}
+use mathlib.Core.Path.{_≡_, refl, sym, _∙_, ap}
 use native.Mathlib.Nat.{mul-le-mul}
 use native.Mathlib.Omega.{arith}
 use borrow.Author.Needs.{needs}
@@ -23,9 +23,11 @@ use Rattle.given.specs.Giving.{Ready, GivenBack}
 use Rattle.mover.proofs.Etypes.{entries-kept}
 use Rattle.file.specs.declared.Handle.{Handle}
 use Rattle.file.specs.declared.TypeShape.{TypeShape}
+use Rattle.file.specs.declared.ViewGiven.{ViewGiven}
 use Rattle.file.specs.Handles.{viewOf, handleKept}
 use Rattle.file.specs.Refusals.{giveBackRefusal}
 use Rattle.file.specs.Answers.{giveBackAnswer, shapeGiven, widthsGiven, displacementsGiven, GaveBack}
+use Rattle.file.specs.Parts.{givenAs}
 use Rattle.file.proofs.Checking.{handle-view, judged-view}
 
 -- ---- the refusals
@@ -76,66 +78,78 @@ module _ (h : Handle) (ew ed fw fd : ℕ) (t : Bool) (k : t ≡ handleKept h) wh
 
 pub ruleset shortness = (needs, give-handle, give-fits, short-1, short-2, short-3, short-4, give-granted)
 
-module _ (h : Handle) (ew ed fw fd n : ℕ) (e : n ≡ giveBackRefusal h ew ed fw fd) (z : n ≡ 0) where
-  passed : (handleKept h ≡ true) × (also (leb (entries (viewOf h .etype)) ew) (also (leb (entries (viewOf h .etype)) ed) (also (leb (entries (viewOf h .filetype)) fw) (leb (entries (viewOf h .filetype)) fd))) ≡ true)
-  unfolding giveBackRefusal
-  passed = let a = check-inv _ 1 _ (omega arith) (sym e ∙ z) in (a .0, check-inv _ 13 _ (omega arith) (a .1) .0)
-
-  view-kept : Kept (paper (h .view))
-  view-kept = handle-view h (passed .0)
-
-  pub all-fits : Fits w64 (h .view .filetype .instances * h .view .etype .entries)
-  all-fits = entries-fit (h .view) view-kept
-
 -- ---- the answer
 
+module _ (h : Handle) (s f : TypeShape) where
+  pub given-none : (n : ℕ) → (n ≡ 0 → ⊥) → (s .entries ≡ 0) × (s .extent ≡ 0) → (f .entries ≡ 0) × (f .extent ≡ 0) → record { refusal = n; count = 0; handle = h; displacement = 0; etype = s; filetype = f } ≡ givenAs n h
+  unfolding givenAs shapeGiven
+  given-none n z a b = λ i. record {
+    refusal = n;
+    count = 0;
+    handle = h;
+    displacement = sym (granted-no n (whole (viewOf h .displacement)) 0 z) i;
+    etype = record { entries = (a .0 ∙ sym (granted-no n (entries (viewOf h .etype)) 0 z)) i; extent = (a .1 ∙ sym (granted-no n (extentOf (viewOf h .etype)) 0 z)) i };
+    filetype = record { entries = (b .0 ∙ sym (granted-no n (entries (viewOf h .filetype)) 0 z)) i; extent = (b .1 ∙ sym (granted-no n (extentOf (viewOf h .filetype)) 0 z)) i };
+  }
+
+  pub given-view : (n : ℕ) → n ≡ 0 → (s .entries ≡ h .view .etype .entries) × (s .extent ≡ h .view .etype .extent) → (f .entries ≡ h .view .filetype .instances * h .view .etype .entries) × (f .extent ≡ h .view .filetype .extent) → record { refusal = 0; count = 0; handle = h; displacement = h .view .displacement; etype = s; filetype = f } ≡ givenAs n h
+  unfolding givenAs shapeGiven viewOf granted
+  given-view n z a b = rw z (λ i. record {
+    refusal = 0;
+    count = 0;
+    handle = h;
+    displacement = sym (paper-start (h .view)) i;
+    etype = record { entries = (a .0 ∙ sym (paper-entries (h .view))) i; extent = (a .1 ∙ sym (paper-extent (h .view))) i };
+    filetype = record { entries = (b .0 ∙ sym (paper-file-entries (h .view))) i; extent = (b .1 ∙ sym (paper-file-extent (h .view))) i };
+  })
+
+pub all-fits : (h : Handle) (n : ℕ) → n ≡ 0 → (n ≡ 0 → Kept (paper (h .view))) → Fits w64 (h .view .filetype .instances * h .view .etype .entries)
+all-fits h n z k = entries-fit (h .view) (k z)
+
 module _ (h : Handle) (ew : List ℕ) (ed : List ℤ) (fw : List ℕ) (fd : List ℤ) (n : ℕ) (e : n ≡ giveBackRefusal h (length ew) (length ed) (length fw) (length fd)) where
-  pub gave-none : (n ≡ 0 → ⊥) → (s f : TypeShape) → (s .entries ≡ 0) × (s .extent ≡ 0) → (f .entries ≡ 0) × (f .extent ≡ 0) → GaveBack h ew ew ed ed fw fw fd fd (record { refusal = n; count = 0; handle = h; displacement = 0; etype = s; filetype = f })
-  unfolding giveBackAnswer shapeGiven widthsGiven displacementsGiven
-  gave-none z s f a b =
-      let y : giveBackRefusal h (length ew) (length ed) (length fw) (length fd) ≡ 0 → ⊥ = λ q. z (e ∙ q) in
-      record {
-        answer = λ i. record {
-          refusal = e i;
-          count = 0;
-          handle = h;
-          displacement = sym (granted-no _ (whole (viewOf h .displacement)) 0 y) i;
-          etype = record { entries = (a .0 ∙ sym (granted-no _ (entries (viewOf h .etype)) 0 y)) i; extent = (a .1 ∙ sym (granted-no _ (extentOf (viewOf h .etype)) 0 y)) i };
-          filetype = record { entries = (b .0 ∙ sym (granted-no _ (entries (viewOf h .filetype)) 0 y)) i; extent = (b .1 ∙ sym (granted-no _ (extentOf (viewOf h .filetype)) 0 y)) i };
-        };
-        etype-widths = sym (granted-no n _ ew z);
-        etype-displacements = sym (granted-no n _ ed z);
-        filetype-widths = sym (granted-no n _ fw z);
-        filetype-displacements = sym (granted-no n _ fd z);
-      }
+  passed : n ≡ 0 → (handleKept h ≡ true) × (also (leb (entries (viewOf h .etype)) (length ew)) (also (leb (entries (viewOf h .etype)) (length ed)) (also (leb (entries (viewOf h .filetype)) (length fw)) (leb (entries (viewOf h .filetype)) (length fd)))) ≡ true)
+  unfolding giveBackRefusal
+  passed z = let a = check-inv _ 1 _ (omega arith) (sym e ∙ z) in (a .0, check-inv _ 13 _ (omega arith) (a .1) .0)
 
-  module _ (z : n ≡ 0) where
-    pub give-ready : Ready (paper (h .view)) ew ed fw fd
-    unfolding viewOf
-    give-ready =
-        let p = passed h (length ew) (length ed) (length fw) (length fd) n e z in
-        let a = also-inv _ _ (p .1) in
-        let b = also-inv _ _ (a .1) in
-        let c = also-inv _ _ (b .1) in
-        record { kept = handle-view h (p .0); etype-widths = leb-true _ _ (a .0); etype-displacements = leb-true _ _ (b .0); filetype-widths = leb-true _ _ (c .0); filetype-displacements = leb-true _ _ (c .1) }
+  pub give-kept : n ≡ 0 → Kept (paper (h .view))
+  give-kept z = handle-view h (passed z .0)
 
-    pub gave : (ew' : List ℕ) (ed' : List ℤ) (fw' : List ℕ) (fd' : List ℤ) → GivenBack (paper (h .view)) ew ew' ed ed' fw fw' fd fd' → (s f : TypeShape) → (s .entries ≡ h .view .etype .entries) × (s .extent ≡ h .view .etype .extent) → (f .entries ≡ h .view .filetype .instances * h .view .etype .entries) × (f .extent ≡ h .view .filetype .extent) → GaveBack h ew ew' ed ed' fw fw' fd fd' (record { refusal = 0; count = 0; handle = h; displacement = h .view .displacement; etype = s; filetype = f })
-    unfolding giveBackAnswer shapeGiven widthsGiven displacementsGiven viewOf granted
-    gave ew' ed' fw' fd' g s f a b =
-        let y = sym e ∙ z in
+  pub give-ready : n ≡ 0 → Ready (paper (h .view)) ew ed fw fd
+  unfolding viewOf
+  give-ready z =
+      let p = passed z in
+      let a = also-inv _ _ (p .1) in
+      let b = also-inv _ _ (a .1) in
+      let c = also-inv _ _ (b .1) in
+      record { kept = handle-view h (p .0); etype-widths = leb-true _ _ (a .0); etype-displacements = leb-true _ _ (b .0); filetype-widths = leb-true _ _ (c .0); filetype-displacements = leb-true _ _ (c .1) }
+
+  module _ (r : ViewGiven) (q : r ≡ givenAs n h) where
+    answered : r ≡ giveBackAnswer h (length ew) (length ed) (length fw) (length fd)
+    unfolding giveBackAnswer givenAs
+    answered = q ∙ ap (λ (z : ℕ). givenAs z h) e
+
+    number : r .refusal ≡ n
+    unfolding givenAs
+    number = ap (λ (z : ViewGiven). z .refusal) q
+
+    pub gave-none : (n ≡ 0 → ⊥) → GaveBack h ew ew ed ed fw fw fd fd r
+    unfolding widthsGiven displacementsGiven
+    gave-none z = record {
+      answer = answered;
+      etype-widths = rw number (sym (granted-no n _ ew z));
+      etype-displacements = rw number (sym (granted-no n _ ed z));
+      filetype-widths = rw number (sym (granted-no n _ fw z));
+      filetype-displacements = rw number (sym (granted-no n _ fd z));
+    }
+
+    pub gave : n ≡ 0 → (ew' : List ℕ) (ed' : List ℤ) (fw' : List ℕ) (fd' : List ℤ) → GivenBack (paper (h .view)) ew ew' ed ed' fw fw' fd fd' → GaveBack h ew ew' ed ed' fw fw' fd fd' r
+    unfolding widthsGiven displacementsGiven viewOf granted
+    gave z ew' ed' fw' fd' g =
+        let y : r .refusal ≡ 0 = number ∙ z in
         record {
-          answer = rw y (λ i. record {
-            refusal = 0;
-            count = 0;
-            handle = h;
-            displacement = sym (paper-start (h .view)) i;
-            etype = record { entries = (a .0 ∙ sym (paper-entries (h .view))) i; extent = (a .1 ∙ sym (paper-extent (h .view))) i };
-            filetype = record { entries = (b .0 ∙ sym (paper-file-entries (h .view))) i; extent = (b .1 ∙ sym (paper-file-extent (h .view))) i };
-          });
-          etype-widths = g .etype-widths;
-          etype-displacements = g .etype-displacements;
-          filetype-widths = g .filetype-widths;
-          filetype-displacements = g .filetype-displacements;
+          answer = answered;
+          etype-widths = rw y (g .etype-widths);
+          etype-displacements = rw y (g .etype-displacements);
+          filetype-widths = rw y (g .filetype-widths);
+          filetype-displacements = rw y (g .filetype-displacements);
         }
-
-pub ruleset returning = (needs, gave-none, give-ready, gave)

@@ -11,7 +11,7 @@ ghost use Rattle.lent.specs.Lists.{lentType, lentView};
 ghost use Rattle.file.specs.Handles.{freshHandle, modeGot, handleKept, fileKept, startOf};
 ghost use Rattle.file.specs.Refusals.{giveBackRefusal};
 ghost use Rattle.file.specs.Answers.{openAnswer, setViewAnswer, GaveBack, placeAnswer, reverseAnswer, endAnswer, seekAnswer, ReadAt, ReadNext, WriteAt, WriteNext};
-ghost use Rattle.file.specs.Parts.{openedAs, refusedMove, checkedAccess, WriteJudged, seekBase};
+ghost use Rattle.file.specs.Parts.{limitsKept, openedAs, givenAs, refusedMove, checkedAccess, WriteJudged, seekBase};
 use view::BytePos;
 use view::Offset;
 use view::Owner;
@@ -164,6 +164,33 @@ fn shape(entries: u64, extent: u64) -> TypeShape
     }
 }
 
+// The answer of giving back: both entry counts, both extents and the displacement of the handle's view, and zeros where it is refused.
+fn given_answer(refusal: u64, handle: Handle) -> ViewGiven
+    requires { ⌜ (refusal ≡ 0 → Kept (paper (handle .view))) ⌝ }
+    ensures { λ r. ⌜ r ≡ givenAs refusal handle ⌝ }
+{
+    if refusal != 0 {
+        return ViewGiven {
+            refusal: refusal,
+            count: 0,
+            handle: handle,
+            displacement: 0,
+            etype: shape(0, 0),
+            filetype: shape(0, 0),
+        };
+    }
+    let entries = handle.view.etype.entries;
+    let all = handle.view.filetype.instances * entries;
+    ViewGiven {
+        refusal: 0,
+        count: 0,
+        handle: handle,
+        displacement: handle.view.displacement,
+        etype: shape(entries, handle.view.etype.extent),
+        filetype: shape(all, handle.view.filetype.extent),
+    }
+}
+
 // The mode that an open gets.
 fn mode_got(mode: u64) -> u64
     ensures { λ r. ⌜ r ≡ modeGot mode ⌝ }
@@ -183,6 +210,19 @@ fn allows_reading(mode: u64) -> bool
         return true;
     }
     mode == Handle::MODE_BOTH
+}
+
+// Whether a mode and a pointer are within their limits.
+fn limits_kept(mode: u64, pointer: u64) -> bool
+    ensures { λ r. ⌜ r ≡ limitsKept mode pointer ⌝ }
+{
+    if Handle::MAX_POINTER < pointer {
+        return false;
+    }
+    if mode < Handle::MODE_READING {
+        return false;
+    }
+    mode <= Handle::MODE_BOTH
 }
 
 // The checks of a write: the refusal number, and where a granted one ends.
@@ -213,34 +253,50 @@ impl Handle {
         }
     }
 
-    // Check 1 where the file is not looked at, of any handle: its mode, its pointer and its view.
+    // Check 1 where the file is not looked at, of any handle: its mode, its pointer and its view. The view's lists are lent, not copied.
     fn kept(self) -> bool
         ensures { λ r. ⌜ r ≡ handleKept self ⌝ }
     {
-        if self.mode < Handle::MODE_READING {
+        if !limits_kept(self.mode, self.pointer) {
             return false;
         }
-        if Handle::MODE_BOTH < self.mode {
-            return false;
-        }
-        if Handle::MAX_POINTER < self.pointer {
-            return false;
-        }
-        let view = self.view;
-        held::keeps(view, self.mode)
+        held::parts_keep(
+            self.mode,
+            self.view.displacement,
+            self.view.etype.entries,
+            &self.view.etype.widths,
+            &self.view.etype.displacements,
+            self.view.etype.extent,
+            self.view.filetype.instances,
+            &self.view.filetype.origins,
+            self.view.filetype.extent,
+        )
     }
 
-    // Check 1 where the file is looked at: also its length and its size.
+    // Check 1 where the file is looked at: also its length and its size. It does not call `kept`, since that call would copy the handle.
     fn file_kept(self, len: u64, rec: FileRecord) -> bool
         ensures { λ r. ⌜ r ≡ fileKept self len rec ⌝ }
     {
-        if !self.kept() {
+        if !limits_kept(self.mode, self.pointer) {
             return false;
         }
         if Handle::MAX_FILE_LENGTH < len {
             return false;
         }
-        rec.size <= len
+        if len < rec.size {
+            return false;
+        }
+        held::parts_keep(
+            self.mode,
+            self.view.displacement,
+            self.view.etype.entries,
+            &self.view.etype.widths,
+            &self.view.etype.displacements,
+            self.view.etype.extent,
+            self.view.filetype.instances,
+            &self.view.filetype.origins,
+            self.view.filetype.extent,
+        )
     }
 
     // Opens: the default view, pointer 0 and the mode got. A refused open's handle has mode 0.
@@ -330,28 +386,13 @@ impl Handle {
             fw.len() as u64,
             fd.len() as u64,
         );
+        let answer = given_answer(refusal, self);
         if refusal != 0 {
-            return ViewGiven {
-                refusal: refusal,
-                count: 0,
-                handle: self,
-                displacement: 0,
-                etype: shape(0, 0),
-                filetype: shape(0, 0),
-            };
+            return answer;
         }
         let view = self.view;
         given::give_back(view, ew, ed, fw, fd);
-        let entries = view.etype.entries;
-        let all = view.filetype.instances * entries;
-        ViewGiven {
-            refusal: 0,
-            count: 0,
-            handle: self,
-            displacement: view.displacement,
-            etype: shape(entries, view.etype.extent),
-            filetype: shape(all, view.filetype.extent),
-        }
+        answer
     }
 
     // The byte at which the etype at an offset begins.
@@ -500,9 +541,7 @@ impl Handle {
         if !ranged {
             return Handle::REFUSED_RANGE;
         }
-        let view = self.view;
-        let etype = view.etype;
-        let packed = copier::data_size(etype);
+        let packed = copier::data_size(self.view.etype.entries, &self.view.etype.widths);
         let bytes = count * packed;
         if room < bytes {
             return Handle::REFUSED_ROOM;

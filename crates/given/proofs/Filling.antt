@@ -3,16 +3,14 @@ use Prim.Native.Nat.{ℕ, _+_, _*_, _/_, _%_, _≤_, _<_}
 use mathlib.Core.List.{List}
 use mathlib.Core.Logic.{⊎-elim}
 use mathlib.Core.Path.{_≡_, sym, ap, _∙_}
-use native.Mathlib.Nat.{mod-lt, mod-self, div-self, mod-eq-of-lt, div-eq-of-lt, mul-le-mul, zero-mod, zero-div}
+use native.Mathlib.Nat.{mod-lt, mod-self, div-self, mod-eq-of-lt, div-eq-of-lt, zero-mod, zero-div}
 use native.Mathlib.Omega.{arith}
-use borrow.Author.Needs.{needs}
 use lib.IntN.{ℤ, pos}
-use lib.ListN.{length, getD}
+use lib.ListN.{getD}
 use mir.Syntax.{w64}
 use mir.Val.{Fits, toZ, ofZ}
 use mir.Facts.{toZ-pos}
 use Rattle.laws.proofs.Booleans.{lt-or-le}
-use Rattle.laws.proofs.Stores.{store-none, store-more, store-end}
 use Rattle.laws.proofs.Quotients.{next-in, next-over, runs-below}
 use Rattle.given.specs.Parts.{groupWidth, groupDisplacement, Room, Signed}
 
@@ -34,8 +32,6 @@ module _ (e n : ℕ) where
 
     pub group-over : (g : ℕ) → g + 1 ≡ g + (e + 1) / n
     group-over g = let q : n / n ≡ 1 = div-self {n = n} (omega arith) in rw last (omega arith)
-
-pub ruleset stepping = (needs, entry-in, entry-over, group-in, group-over)
 
 -- ---- where a loop stands: entry e of group g is entry i of all
 
@@ -61,9 +57,6 @@ first-group n = sym (zero-div n)
 -- ---- what a loop reads and stores
 
 module _ (n k len : ℕ) (r : Room n k len) where
-  pub total-fits : Fits w64 (k * n)
-  total-fits = record { fits = omega (arith, mul-le-mul (r .groups) (r .few)) }
-
   module _ (i e : ℕ) (ei : e ≡ i % n) where
     pub entry-below : e < n
     entry-below = omega (arith, mod-lt i {m = n} (r .some))
@@ -81,9 +74,6 @@ module _ (n k len : ℕ) (r : Room n k len) where
     group-next g g' gi q = next-group-is n i e (r .some) ei g g' gi q
 
   module _ (i : ℕ) (l : i < k * n) where
-    pub place-in : {A : Type 0} (out : List A) → length out ≡ len → i < length out
-    place-in out q = omega (arith, r .room)
-
     module _ (g : ℕ) (gi : g ≡ i / n) where
       pub group-below : g < k
       group-below = omega (arith, runs-below k n i (r .some) l)
@@ -106,7 +96,3 @@ module _ (n k len : ℕ) (r : Room n k len) where
 pub width-is : (ws : List ℕ) (n i e : ℕ) → e ≡ i % n → getD ws e 0 ≡ groupWidth ws n i
 unfolding groupWidth
 width-is ws n i e ei = rw ei
-
-pub ruleset widths = (needs, store-none, store-more, store-end, first-entry, total-fits, entry-below, entry-held, entry-scaled, entry-next, place-in, width-is)
-
-pub ruleset displacements = (needs, store-none, store-more, store-end, first-entry, first-group, total-fits, entry-below, entry-held, entry-scaled, entry-next, group-held, group-scaled, group-next, sum-small, place-in, displacement-is)

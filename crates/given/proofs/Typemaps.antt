@@ -4,7 +4,6 @@ use mathlib.Core.List.{List}
 use mathlib.Core.Path.{_≡_, refl, sym, ap, _∙_}
 use native.Mathlib.Nat.{mod-eq-of-lt, div-eq-of-lt, one-mul}
 use native.Mathlib.Omega.{arith}
-use borrow.Author.Needs.{needs}
 use lib.IntN.{ℤ, pos}
 use lib.ListN.{replicate}
 use Rattle.laws.specs.Lists.{front}
@@ -70,5 +69,3 @@ module _ (v : View) (kept : Kept (paper v)) where
   pub filetype-displacements-are : (l l' : List ℤ) → l' ≡ front (groupDisplacement (v .filetype .origins) (v .etype .displacements) (v .etype .entries)) (v .filetype .instances * v .etype .entries) l → l' ≡ front (λ i. pos (displacementAt (paper v .filetype) i)) (entries (paper v .filetype)) l
   unfolding groupDisplacement
   filetype-displacements-are l l' q = rw (paper-file-entries v) (q ∙ store-same _ _ _ _ (v .filetype .instances * v .etype .entries) l (λ i h. refl) (λ i h. ap pos (sym (paper-file-displacement v i h))))
-
-pub ruleset typemaps = (needs, etype-room, filetype-room, etype-signed, filetype-signed, etype-widths-are, etype-displacements-are, filetype-widths-are, filetype-displacements-are)

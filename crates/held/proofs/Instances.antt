@@ -20,7 +20,7 @@ use Rattle.view.specs.Rules.{entryAllowed, entriesAllowed, ordered, typeOrdered
 use Rattle.view.proofs.Paper.{paper-entries, paper-file-entries, paper-width, paper-displacement, paper-file-width, paper-file-displacement-read, paper-file-displacement, paper-extent, paper-file-extent, paper-instances, paper-origin}
 use Rattle.view.proofs.Accepted.{type-entry, width-small}
 use Rattle.rules.specs.Parts.{entryFits, entryHeld, entryEnd, reachOf, reachAt, stepAt, originsStep, apartAt}
-use Rattle.held.specs.Parts.{lastBegins, lastEnds, tileApart, apartHeld}
+use Rattle.held.specs.Parts.{lastBegins, partsApart, apartHeld}
 use Rattle.held.proofs.Pieces.{holes-same, Linked, inside, across, linked}
 
 -- ---- the filetype, where the etype has entries and the filetype instances
@@ -95,7 +95,7 @@ module _ (v : View) (some : 0 < v .etype .entries) (more : 0 < v .filetype .inst
   file-order : (i : ℕ) → i + 1 < v .filetype .instances * v .etype .entries → leb (displacementAt (paper v .filetype) i) (displacementAt (paper v .filetype) (i + 1)) ≡ leb (nth (v .filetype .origins) (i / v .etype .entries) + nth (v .etype .displacements) (i % v .etype .entries)) (nth (v .filetype .origins) ((i + 1) / v .etype .entries) + nth (v .etype .displacements) ((i + 1) % v .etype .entries))
   file-order i l = rw (paper-file-displacement v i (omega arith), paper-file-displacement v (i + 1) l)
 
-  pub order-step : ordered (nth (v .etype .displacements)) (v .etype .entries) ≡ true → typeOrdered (paper v .filetype) ≡ originsStep (v .filetype) (lastBegins (v .etype)) (nth (v .etype .displacements) 0)
+  pub order-step : ordered (nth (v .etype .displacements)) (v .etype .entries) ≡ true → typeOrdered (paper v .filetype) ≡ originsStep (v .filetype .origins) (v .filetype .instances) (lastBegins (v .etype)) (nth (v .etype .displacements) 0)
   unfolding ordered typeOrdered originsStep stepAt lastBegins Linked
   order-step o = rw (paper-file-entries v) (iff _ _ split join)
     where
@@ -141,8 +141,7 @@ module _ (v : View) (some : 0 < v .etype .entries) (more : 0 < v .filetype .inst
   unfolding Linked ends
   apart-linked h i l = omega (arith, entry-linked h i (omega arith), file-end i (omega arith), next-begins i (omega arith) (omega arith))
 
-  tile-end : apart (paper v) ≡ true → nth (v .filetype .origins) (v .filetype .instances - 1) + lastEnds (v .etype) ≤ nth (v .filetype .origins) 0 + nth (v .etype .displacements) 0 + v .filetype .extent
-  unfolding lastEnds
+  tile-end : apart (paper v) ≡ true → nth (v .filetype .origins) (v .filetype .instances - 1) + entryEnd (v .etype .widths) (v .etype .displacements) (v .etype .entries - 1) ≤ nth (v .filetype .origins) 0 + nth (v .etype .displacements) 0 + v .filetype .extent
   tile-end h =
       let b = run-below (v .filetype .instances) (v .etype .entries) (v .filetype .instances - 1) (v .etype .entries - 1) (omega arith) (omega arith) in
       let l : v .filetype .instances * v .etype .entries - 1 < v .filetype .instances * v .etype .entries = omega (arith, last-entry) in
@@ -152,7 +151,7 @@ module _ (v : View) (some : 0 < v .etype .entries) (more : 0 < v .filetype .inst
       omega arith
 
   apart-held : apart (paper v) ≡ true → apartHeld (v .etype) (v .filetype) ≡ true
-  unfolding apartHeld apartAt originsStep stepAt lastEnds tileApart ends
+  unfolding partsApart apartAt originsStep stepAt ends
   apart-held h =
       also-true (all-intro _ (v .etype .entries - 1) (λ e l. le-leb _ _ (inside (nth (v .filetype .origins)) ends (nth (v .etype .displacements)) (v .etype .entries) (v .filetype .instances) some more (apart-linked h) e l)))
       (also-true (all-intro _ (v .filetype .instances - 1) (λ g l. le-leb _ _ (across (nth (v .filetype .origins)) ends (nth (v .etype .displacements)) (v .etype .entries) (v .filetype .instances) some more (apart-linked h) g l)))
@@ -160,15 +159,15 @@ module _ (v : View) (some : 0 < v .etype .entries) (more : 0 < v .filetype .inst
 
   module _ (h : apartHeld (v .etype) (v .filetype) ≡ true) where
     entries-held : (e : ℕ) → e < v .etype .entries - 1 → ends e ≤ nth (v .etype .displacements) (e + 1)
-    unfolding apartHeld apartAt ends
+    unfolding partsApart apartAt ends
     entries-held e l = leb-true _ _ (all-at _ (v .etype .entries - 1) (also-inv _ _ h .0) e l)
 
     steps-held : (g : ℕ) → g < v .filetype .instances - 1 → nth (v .filetype .origins) g + ends (v .etype .entries - 1) ≤ nth (v .filetype .origins) (g + 1) + nth (v .etype .displacements) 0
-    unfolding apartHeld originsStep stepAt lastEnds ends
+    unfolding partsApart originsStep stepAt ends
     steps-held g l = leb-true _ _ (all-at _ (v .filetype .instances - 1) (also-inv _ _ (also-inv _ _ h .1) .0) g l)
 
     tile-held : nth (v .filetype .origins) (v .filetype .instances - 1) + ends (v .etype .entries - 1) ≤ nth (v .filetype .origins) 0 + nth (v .etype .displacements) 0 + v .filetype .extent
-    unfolding apartHeld tileApart lastEnds ends
+    unfolding partsApart ends
     tile-held = leb-true _ _ (also-inv _ _ (also-inv _ _ h .1) .1)
 
     -- an entry before the last, and the last one

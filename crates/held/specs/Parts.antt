@@ -1,6 +1,7 @@
 -- What the functions of this crate test on a held record, part by part. A reader need not believe these: the contract of `keeps` is `accepted`, and the proofs show that the parts make it up.
 use Prim.Native.Nat.{ℕ, _+_, _-_, _*_, _≤_}
 use mathlib.Core.Bool.{Bool, not}
+use mathlib.Core.List.{List}
 use lib.Dec.{leb}
 use Rattle.laws.specs.Checks.{also, either, within}
 use Rattle.laws.specs.Search.{all}
@@ -12,6 +13,17 @@ use Rattle.view.specs.Limits.{maxEtypeEntries, maxFiletypeEntries, maxInstances
 use Rattle.view.specs.Rules.{ordered, holesFit, allowsWriting}
 use Rattle.rules.specs.Parts.{EntriesKept, OriginsKept, apartAt, entryEnd, entryHeld, originsStep, reachAt, reachOf}
 
+-- ---- the records that parts make up
+
+abbrev pub etypeOf : ℕ → List ℕ → List ℕ → ℕ → Etype
+etypeOf n ws ds x = record { entries = n; widths = ws; displacements = ds; extent = x }
+
+abbrev pub filetypeOf : ℕ → List ℕ → ℕ → Filetype
+filetypeOf k ps x = record { instances = k; origins = ps; extent = x }
+
+abbrev pub viewHaving : ℕ → Etype → Filetype → View
+viewHaving d e f = record { displacement = d; etype = e; filetype = f }
+
 -- ---- the etype
 
 unfoldable pub etypeHeld : Etype → Bool
@@ -21,12 +33,9 @@ etypeHeld e =
     (also (all (entryHeld (e .widths) (e .displacements)) (e .entries))
     (ordered (nth (e .displacements)) (e .entries))))
 
--- where the last entry begins and ends
+-- where the last entry begins
 unfoldable pub lastBegins : Etype → ℕ
 lastBegins e = nth (e .displacements) (e .entries - 1)
-
-unfoldable pub lastEnds : Etype → ℕ
-lastEnds e = entryEnd (e .widths) (e .displacements) (e .entries - 1)
 
 -- ---- the filetype
 
@@ -36,25 +45,26 @@ filetypeHeld e f =
     (also (leb (f .instances * e .entries) maxFiletypeEntries)
     (also (within 1 maxExtent (f .extent))
     (also (all (reachAt (f .origins) (reachOf (e .widths) (e .displacements) (e .entries))) (f .instances))
-    (also (originsStep f (lastBegins e) (nth (e .displacements) 0))
+    (also (originsStep (f .origins) (f .instances) (lastBegins e) (nth (e .displacements) 0))
     (holesFit (nth (f .origins)) (f .instances) (e .extent) (f .extent))))))
 
--- ---- overlap
+-- ---- overlap, with n widths ws and displacements ds, k origins ps and the filetype's extent x
 
-unfoldable pub tileApart : Etype → Filetype → Bool
-tileApart e f = leb (nth (f .origins) (f .instances - 1) + lastEnds e) (nth (f .origins) 0 + nth (e .displacements) 0 + f .extent)
+unfoldable pub partsApart : ℕ → List ℕ → List ℕ → ℕ → List ℕ → ℕ → Bool
+partsApart n ws ds k ps x =
+    let end = entryEnd ws ds (n - 1) in
+    also (all (apartAt ws ds) (n - 1))
+    (also (originsStep ps k end (nth ds 0))
+    (leb (nth ps (k - 1) + end) (nth ps 0 + nth ds 0 + x)))
 
-unfoldable pub apartHeld : Etype → Filetype → Bool
-apartHeld e f =
-    also (all (apartAt (e .widths) (e .displacements)) (e .entries - 1))
-    (also (originsStep f (lastEnds e) (nth (e .displacements) 0))
-    (tileApart e f))
+abbrev pub apartHeld : Etype → Filetype → Bool
+apartHeld e f = partsApart (e .entries) (e .widths) (e .displacements) (f .instances) (f .origins) (f .extent)
 
--- what the test of overlap asks of the record: both types keep their limits
-pub record ShapeKept (e : Etype) (f : Filetype) : Type 0 where
-  pub entries : EntriesKept (e .entries) (e .widths) (e .displacements)
-  pub origins : OriginsKept (f .instances) (f .origins)
-  pub extent : f .extent ≤ maxExtent
+-- what the test of overlap asks of the parts: both types keep their limits
+pub record ShapeKept (n : ℕ) (ws ds : List ℕ) (k : ℕ) (ps : List ℕ) (x : ℕ) : Type 0 where
+  pub entries : EntriesKept n ws ds
+  pub origins : OriginsKept k ps
+  pub extent : x ≤ maxExtent
 
 -- ---- the view
 

@@ -1,46 +1,52 @@
 // The test of a view that is already held, whatever numbers stand in its record: does it keep the limits and rules for a mode?
-// The parts are tested on the record, at a cost that grows with the etype's entries plus the instances.
+// The parts are tested on the record, at a cost that grows with the etype's entries plus the instances, and no list is copied.
+// `n` and `k` count the etype's entries and the instances; `ex` and `fx` are the etype's and the filetype's extents.
 ghost use mathlib.Core.Bool.{true};
 ghost use mathlib.Core.Path.{_≡_};
 ghost use Rattle.view.specs.Types.{paper};
 ghost use Rattle.view.specs.Rules.{accepted};
-ghost use Rattle.held.specs.Parts.{etypeHeld, filetypeHeld, apartHeld, ShapeKept};
-use view::Etype;
-use view::Filetype;
+ghost use Rattle.held.specs.Parts.{etypeOf, filetypeOf, viewHaving, etypeHeld, filetypeHeld, partsApart, ShapeKept};
+use view::PerEntry;
+use view::PerInstance;
 use view::View;
 
 // Whether an etype keeps its limits and is ordered.
-fn etype_kept(e: Etype) -> bool
-    ensures { λ r. ⌜ r ≡ etypeHeld e ⌝ }
+fn etype_kept<'a>(n: u64, widths: &'a PerEntry, displacements: &'a PerEntry, ex: u64) -> bool
+    ensures { λ r. ⌜ r ≡ etypeHeld (etypeOf n (now (widths .entry)) (now (displacements .entry)) ex) ⌝ }
 {
-    let n = e.entries;
     if n < View::MIN_ENTRIES {
         return false;
     }
     if View::MAX_ETYPE_ENTRIES < n {
         return false;
     }
-    if e.extent < View::MIN_EXTENT {
+    if ex < View::MIN_EXTENT {
         return false;
     }
-    if View::MAX_EXTENT < e.extent {
+    if View::MAX_EXTENT < ex {
         return false;
     }
-    if !rules::entries_fit(e) {
+    if !rules::entries_fit(n, widths, displacements) {
         return false;
     }
-    let displacements = e.displacements;
     let used = n as usize;
-    rules::never_decrease(&displacements[..used])
+    let all: &[u64] = displacements;
+    rules::never_decrease(&all[..used])
 }
 
 // Whether a filetype of instances of a kept etype keeps its limits, is ordered, and has holes that fit.
-fn filetype_kept(e: Etype, f: Filetype) -> bool
-    requires { ⌜ etypeHeld e ≡ true ⌝ }
-    ensures { λ r. ⌜ r ≡ filetypeHeld e f ⌝ }
+fn filetype_kept<'a>(
+    n: u64,
+    widths: &'a PerEntry,
+    displacements: &'a PerEntry,
+    ex: u64,
+    k: u64,
+    origins: &'a PerInstance,
+    fx: u64,
+) -> bool
+    requires { ⌜ etypeHeld (etypeOf n (now widths) (now displacements) ex) ≡ true ⌝ }
+    ensures { λ r. ⌜ r ≡ filetypeHeld (etypeOf n (now (widths .entry)) (now (displacements .entry)) ex) (filetypeOf k (now (origins .entry)) fx) ⌝ }
 {
-    let n = e.entries;
-    let k = f.instances;
     if k < View::MIN_INSTANCES {
         return false;
     }
@@ -51,64 +57,92 @@ fn filetype_kept(e: Etype, f: Filetype) -> bool
     if View::MAX_FILETYPE_ENTRIES < entries {
         return false;
     }
-    if f.extent < View::MIN_EXTENT {
+    if fx < View::MIN_EXTENT {
         return false;
     }
-    if View::MAX_EXTENT < f.extent {
+    if View::MAX_EXTENT < fx {
         return false;
     }
-    let reach = rules::reach_of(e);
-    if !rules::instances_fit(f, reach) {
+    let reach = rules::reach_of(n, widths, displacements);
+    if !rules::instances_fit(k, origins, reach) {
         return false;
     }
-    let displacements = e.displacements;
     let last = (n - 1) as usize;
-    if !rules::instances_step(f, displacements[last], displacements[0]) {
+    if !rules::instances_step(k, origins, displacements[last], displacements[0]) {
         return false;
     }
-    rules::holes_fit(f, e.extent)
+    rules::holes_fit(k, origins, fx, ex)
 }
 
 // Whether the entries of a filetype of kept shape are apart, those of the next tile too. For our own crates.
-pub fn shape_apart(e: Etype, f: Filetype) -> bool
-    requires { ⌜ ShapeKept e f ⌝ }
-    ensures { λ r. ⌜ r ≡ apartHeld e f ⌝ }
+pub fn shape_apart<'a>(
+    n: u64,
+    widths: &'a PerEntry,
+    displacements: &'a PerEntry,
+    k: u64,
+    origins: &'a PerInstance,
+    fx: u64,
+) -> bool
+    requires { ⌜ ShapeKept n (now widths) (now displacements) k (now origins) fx ⌝ }
+    ensures { λ r. ⌜ r ≡ partsApart n (now (widths .entry)) (now (displacements .entry)) k (now (origins .entry)) fx ⌝ }
 {
-    if !rules::entries_apart(e) {
+    if !rules::entries_apart(n, widths, displacements) {
         return false;
     }
-    let displacements = e.displacements;
-    let widths = e.widths;
-    let last = (e.entries - 1) as usize;
+    let last = (n - 1) as usize;
     let end = displacements[last] + widths[last];
     let begin = displacements[0];
-    if !rules::instances_step(f, end, begin) {
+    if !rules::instances_step(k, origins, end, begin) {
         return false;
     }
-    let origins = f.origins;
-    let instance = (f.instances - 1) as usize;
+    let instance = (k - 1) as usize;
     let tile_end = origins[instance] + end;
     let first = origins[0] + begin;
-    tile_end <= first + f.extent
+    tile_end <= first + fx
+}
+
+// Whether the view of these parts, whatever their numbers, keeps the limits and rules for this mode. For our own crates.
+pub fn parts_keep<'a>(
+    mode: u64,
+    displacement: u64,
+    n: u64,
+    widths: &'a PerEntry,
+    displacements: &'a PerEntry,
+    ex: u64,
+    k: u64,
+    origins: &'a PerInstance,
+    fx: u64,
+) -> bool
+    ensures { λ r. ⌜ r ≡ accepted mode (paper (viewHaving displacement (etypeOf n (now (widths .entry)) (now (displacements .entry)) ex) (filetypeOf k (now (origins .entry)) fx))) ⌝ }
+{
+    if View::MAX_DISPLACEMENT < displacement {
+        return false;
+    }
+    if !etype_kept(n, widths, displacements, ex) {
+        return false;
+    }
+    if !filetype_kept(n, widths, displacements, ex, k, origins, fx) {
+        return false;
+    }
+    if !rules::writes(mode) {
+        return true;
+    }
+    shape_apart(n, widths, displacements, k, origins, fx)
 }
 
 // Whether a held view, whatever its numbers, keeps the limits and rules for this mode.
 pub fn keeps(v: View, mode: u64) -> bool
     ensures { λ r. ⌜ r ≡ accepted mode (paper v) ⌝ }
 {
-    if View::MAX_DISPLACEMENT < v.displacement {
-        return false;
-    }
-    let e = v.etype;
-    if !etype_kept(e) {
-        return false;
-    }
-    let f = v.filetype;
-    if !filetype_kept(e, f) {
-        return false;
-    }
-    if !rules::writes(mode) {
-        return true;
-    }
-    shape_apart(e, f)
+    parts_keep(
+        mode,
+        v.displacement,
+        v.etype.entries,
+        &v.etype.widths,
+        &v.etype.displacements,
+        v.etype.extent,
+        v.filetype.instances,
+        &v.filetype.origins,
+        v.filetype.extent,
+    )
 }

@@ -4,7 +4,7 @@ use mathlib.Core.Bool.{Bool, true, false, not, true≢false}
 use mathlib.Core.List.{List}
 use mathlib.Core.Path.{_≡_, refl, sym, ap, _∙_}
 use native.Mathlib.Omega.{arith}
-use borrow.Author.Needs.{needs, sfits-of}
+use borrow.Author.Needs.{sfits-of}
 use borrow.Author.Tests.{ltb-true, eqb-true, le-leb, eq-eqb, ne-eqb}
 use lib.Dec.{leb}
 use lib.IntN.{ℤ, pos, negsuc}
@@ -16,7 +16,7 @@ use mir.Facts.{toZ-ofZ}
 use Rattle.laws.specs.Checks.{within}
 use Rattle.laws.specs.Search.{all}
 use Rattle.laws.proofs.Booleans.{tests, check-yes, also-inv, also-yes, also-no, also-false, also-true, within-low, within-high, within-yes, unflag-true, unflag-false}
-use Rattle.laws.proofs.Searching.{Passed, passed-none, passed-more, passed-fails, passed-holds}
+use Rattle.laws.proofs.Searching.{Passed, passed-fails, passed-holds}
 use Rattle.view.specs.Limits.{widthAllowed, entryDisplacementAllowed, extentAllowed, displacementAllowed}
 use Rattle.view.specs.Types.{entries, widthAt, whole}
 use Rattle.view.specs.Rules.{nativeName, isNative, entryAllowed, entriesAllowed}
@@ -45,8 +45,6 @@ native-fails r i e s l h = also-yes _ _ false (eq-eqb _ _ e) (passed-fails _ i 6
 pub native-holds : (r : List ℕ) (i : ℕ) → length r ≡ 6 → Passed (nativeAt r) i 6 → 6 ≤ i → true ≡ isNative r
 unfolding isNative nativeAt
 native-holds r i e s l = also-yes _ _ true (eq-eqb _ _ e) (passed-holds _ i 6 s l)
-
-pub ruleset representing = (needs, passed-none, passed-more, native-yes, native-no, native-short, native-fails, native-holds)
 
 -- ---- signed numbers, as the machine reads them
 
@@ -105,8 +103,6 @@ module _ (z : ℤ) (f : SFits w64 z) where
     pub extent-is : 1 ≤ n → leb n 1048576 ≡ extentAllowed z
     extent-is l = high-extent z n number l
 
-pub ruleset signing = (needs, displacement-negative, entry-negative, displacement-is, entry-is, extent-low, extent-is)
-
 -- ---- counts
 
 pub ruleset counting = (tests, also-yes, also-no, within-low, within-high, within-yes)
@@ -123,8 +119,6 @@ module _ (ws : List ℕ) (ds : List ℤ) (i : ℕ) (t : Bool) (m : mag (getD ds 
 
   pub lent-no : not t ≡ true → typeLent ws ds i ≡ false
   lent-no n = unflag-false t _ flag n
-
-pub ruleset lending = (needs, passed-none, passed-more, passed-fails, passed-holds, lent-yes, lent-no)
 
 -- ---- the flags of checks 3 to 6
 

@@ -172,7 +172,7 @@ module _ (v : View) (k : Kept (paper v)) where
       pub spot-small : s .tile .0 + nth (v .filetype .origins) (s .instance) < 4505798650626048
       spot-small = omega (arith, spot-tile, tile-small x l, start-small, record-origin (s .instance) instance-below)
 
-      pub spot-kept : SpotKept (v .filetype) s
+      pub spot-kept : SpotKept (v .filetype .origins) s
       spot-kept = record { held = spot-held; fits = omega (arith, spot-small) }
 
     -- a step leads to the spot of the next offset

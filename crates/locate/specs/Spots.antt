@@ -2,10 +2,10 @@
 -- A reader need not believe these: contracts of calls cite `place`, and the proofs show that these make it up.
 use Prim.Native.Nat.{ℕ, _+_, _*_, _/_, _%_, _<_}
 use mathlib.Core.Bool.{cond}
+use mathlib.Core.List.{List}
 use mathlib.Core.Path.{_≡_}
 use lib.Dec.{ltb}
 use Rattle.laws.specs.Lists.{nth}
-use Rattle.view.specs.declared.Filetype.{Filetype}
 use Rattle.view.specs.Limits.{maxInstances}
 use Rattle.view.specs.Types.{PaperView, extentOf, whole}
 use Rattle.view.specs.Rules.{instances}
@@ -23,7 +23,7 @@ nextSpot s k f =
     (record { tile = s .tile; instance = s .instance + 1 })
     (record { tile = record { 0 = s .tile .0 + f }; instance = 0 })
 
--- an etype that begins at a spot lies in the machine's range
-pub record SpotKept (f : Filetype) (s : Spot) : Type 0 where
+-- an etype that begins at a spot of a filetype with origins ps lies in the machine's range
+pub record SpotKept (ps : List ℕ) (s : Spot) : Type 0 where
   pub held : s .instance < maxInstances
-  pub fits : s .tile .0 + nth (f .origins) (s .instance) < 18446744073709551616
+  pub fits : s .tile .0 + nth ps (s .instance) < 18446744073709551616

@@ -12,8 +12,8 @@ ghost use Rattle.view.specs.Places.{place};
 ghost use Rattle.view.specs.End.{endFrom, endOfFile};
 ghost use Rattle.locate.specs.Spots.{SpotAt, nextSpot, SpotKept};
 use view::BytePos;
-use view::Filetype;
 use view::Offset;
+use view::PerInstance;
 use view::View;
 
 // The tile and the instance of an offset: where its tile begins, and which instance of the tile it is.
@@ -61,11 +61,10 @@ pub fn next_spot(s: Spot, instances: u64, extent: u64) -> Spot
 }
 
 // Where the etype at a spot begins. For our own crates.
-pub fn begin_at(f: Filetype, s: Spot) -> BytePos
-    requires { ⌜ SpotKept f s ⌝ }
-    ensures { λ r. ⌜ r .0 ≡ s .tile .0 + nth (f .origins) (s .instance) ⌝ }
+pub fn begin_at(origins: &PerInstance, s: Spot) -> BytePos
+    requires { ⌜ SpotKept (now origins) s ⌝ }
+    ensures { λ r. ⌜ r .0 ≡ s .tile .0 + nth (now (origins .entry)) (s .instance) ⌝ }
 {
-    let origins = f.origins;
     let instance = s.instance as usize;
     let tile = s.tile;
     BytePos(tile.0 + origins[instance])
@@ -77,8 +76,7 @@ pub fn place_of(v: View, o: Offset) -> BytePos
     ensures { λ r. ⌜ r .0 ≡ place (paper v) (whole (o .0)) ⌝ }
 {
     let spot = spot_of(v, o);
-    let filetype = v.filetype;
-    begin_at(filetype, spot)
+    begin_at(&v.filetype.origins, spot)
 }
 
 // One past the last offset that is instance `i` of its tile and begins below `size`, or 0.

@@ -4,9 +4,11 @@ use mathlib.Core.Bool.{Bool, true, false}
 use mathlib.Core.Path.{_≡_, refl, sym, ap, _∙_}
 use native.Mathlib.Nat.{mul-le-mul}
 use native.Mathlib.Omega.{arith}
+use Rattle.laws.specs.Lists.{nth}
 use Rattle.laws.specs.Search.{total}
 use Rattle.laws.proofs.Sums.{greatest-least, greatest-above, greatest-one, total-same, total-most}
 use Rattle.view.specs.declared.View.{View}
+use Rattle.view.specs.Limits.{widthAllowed}
 use Rattle.view.specs.Types.{paper, entries, widthAt, displacementAt, whole}
 use Rattle.view.specs.Rules.{Kept}
 use Rattle.view.specs.Places.{place, packedBefore, entryOf, dataAt, byteOf, dataSize}
@@ -40,6 +42,9 @@ module _ (v : View) (k : Kept (paper v)) where
     few = omega (arith, paper-entries v, kept .few);
     ends = λ i l. omega (arith, entry-end i l, kept .ends i (omega (arith, paper-entries v)));
   }
+
+  pub entries-allowed : (i : ℕ) → i < v .etype .entries → widthAllowed (nth (v .etype .widths) i) ≡ true
+  entries-allowed i l = ap widthAllowed (sym (paper-width v i l)) ∙ kept .allowed i (omega (arith, paper-entries v))
 
   pub data-is : sizeOf (v .etype .entries) (v .etype .widths) ≡ dataSize (paper v)
   unfolding sizeOf dataSize packedBefore

@@ -24,15 +24,21 @@ use Rattle.locate.specs.Spots.{SpotAt, nextSpot}
 use Rattle.copier.specs.Parts.{sizeOf, byteIn, placeIn, Lies}
 use Rattle.mover.specs.Moves.{fileByte, inFile, moved, readInto}
 use Rattle.mover.specs.Parts.{Movable, ReadDone}
-use Rattle.mover.proofs.Etypes.{entries-kept, data-is, place-in, in-file-yes, in-file-no}
+use Rattle.mover.proofs.Etypes.{entries-kept, entries-allowed, data-is, place-in, in-file-yes, in-file-no}
 use Rattle.mover.proofs.Walking.{file-byte-run, Walking, walk-fits, walk-kept, walk-held, walk-step, walk-more, walk-place, walk-end-fits, walk-size, walk-room, move-offset, first-is, last-fits, walk-begun}
 
 -- etype o + t lies in the file
 abbrev pub lying : PaperView → ℕ → ℕ → ℕ → Bool
 lying v size o t = inFile v size (o + t)
 
-pub record Gathering (v : View) (file : List ℕ) (size o c : ℕ) (buf₀ buf : List ℕ) (x : ℕ) (s : Spot) : Type 0 where
+-- S is the data size and r how far an etype reaches
+pub record Gathering (v : View) (file : List ℕ) (size o c S r : ℕ) (buf₀ buf : List ℕ) (x : ℕ) (s : Spot) : Type 0 where
   pub walk : Walking v o (o + c) x s
+  pub sized : S ≡ sizeOf (v .etype .entries) (v .etype .widths)
+  pub reaches : r ≡ reachOf (v .etype .widths) (v .etype .displacements) (v .etype .entries)
+  pub short : size ≤ length file
+  pub room : c * dataSize (paper v) ≤ length buf₀
+  pub held : length buf₀ < 2 ^ 64
   pub passed : Passed (lying (paper v) size o) (x - o) c
   pub long : length buf ≡ length buf₀
   pub done : buf ≡ readInto (paper v) file o (x - o) buf₀
@@ -45,22 +51,27 @@ move-none v file size o c buf e = record {
   buffer = store-none _ _ buf ∙ ap (λ (z : ℕ). front (λ i. nth file (fileByte (paper v) (whole o) i)) z buf) (sym (zero-mul (dataSize (paper v))));
 }
 
-module _ (v : View) (file buf₀ : List ℕ) (size : ℕ) (o : ℤ) (c : ℕ) (h : Movable v (length file) size o c (length buf₀)) (some : c ≡ 0 → ⊥) (first : ℕ) (read : first ≡ whole (toZ w64 (ofZ w64 o))) where
+module _ (v : View) (file buf₀ : List ℕ) (size : ℕ) (o : ℤ) (c : ℕ) (h : Movable v (length file) size o c (length buf₀)) (some : c ≡ 0 → ⊥) (first : ℕ) (read : first ≡ whole (toZ w64 (ofZ w64 o))) (S r : ℕ) where
   is : first ≡ whole o
   is = first-is v o c (h .ranged) some first read
 
-  pub gathering-none : (s : Spot) → SpotAt (paper v) (whole o) s → Gathering v file size first c buf₀ buf₀ first s
+  pub gathering-none : S ≡ sizeOf (v .etype .entries) (v .etype .widths) → r ≡ reachOf (v .etype .widths) (v .etype .displacements) (v .etype .entries) → (s : Spot) → SpotAt (paper v) (whole o) s → length buf₀ < 2 ^ 64 → Gathering v file size first c S r buf₀ buf₀ first s
   unfolding readInto
-  gathering-none s at =
+  gathering-none sized reaches s at held =
       let e : first - first ≡ 0 = omega arith in
       record {
         walk = walk-begun v o c (h .ranged) some first read s at;
+        sized = sized;
+        reaches = reaches;
+        short = h .short;
+        room = h .room;
+        held = held;
         passed = rw e (passed-none _ c);
         long = refl;
         done = rw (e, zero-mul (dataSize (paper v))) (store-none _ _ buf₀);
       }
 
-  module _ (buf : List ℕ) (x : ℕ) (s : Spot) (g : Gathering v file size first c buf₀ buf x s) where
+  module _ (buf : List ℕ) (x : ℕ) (s : Spot) (g : Gathering v file size first c S r buf₀ buf x s) where
     -- every etype lay in the file
     pub gather-all : first + c ≤ x → ReadDone v file size o c buf₀ c buf
     unfolding moved
@@ -71,63 +82,70 @@ module _ (v : View) (file buf₀ : List ℕ) (size : ℕ) (o : ℤ) (c : ℕ) (h
           buffer = g .done ∙ (λ j. readInto (paper v) file (is j) (e j) buf₀);
         }
 
-    -- p is where the etype at x begins, r how far it reaches
-    module _ (l : x < first + c) (p : ℕ) (begins : p ≡ s .tile .0 + nth (v .filetype .origins) (s .instance)) (r : ℕ) (reaches : r ≡ reachOf (v .etype .widths) (v .etype .displacements) (v .etype .entries)) where
-      p-is : p ≡ place (paper v) x
-      p-is = walk-place v first (first + c) x s (g .walk) l p begins
-
-      at-x : first + (x - first) ≡ x
-      at-x = omega (arith, g .walk .begun)
-
-      -- the etype at x does not lie in the file
-      pub gather-stop : size < p + r → ReadDone v file size o c buf₀ (x - first) buf
-      unfolding moved
-      gather-stop q =
-          let n = in-file-no v (h .ranged .kept) size x (omega (arith, p-is)) in
-          record {
-            count = passed-stop _ (x - first) c (g .passed) (omega (arith, g .walk .begun)) (rw at-x n) ∙ ap (λ (z : ℕ). moved (paper v) size z c) is;
-            buffer = g .done ∙ ap (λ (z : ℕ). readInto (paper v) file z (x - first) buf₀) is;
-          }
-
-      -- it does; S bytes from (x - first)·S on are lent
-      module _ (q : p + r ≤ size) (S : ℕ) (sized : S ≡ sizeOf (v .etype .entries) (v .etype .widths)) where
-        S-is : S ≡ dataSize (paper v)
-        S-is = walk-size v first (first + c) x s (g .walk) l S sized
-
-        runs : (x - first) * S + S ≤ length buf
-        runs = omega (arith, g .long, walk-room v first (first + c) x s (g .walk) l S sized c (length buf₀) refl (h .room))
-
-        pub from-fits : length buf₀ < 2 ^ 64 → Fits w64 ((x - first) * S)
-        from-fits b = record { fits = omega (arith, runs, g .long) }
-
-        pub from-inside : (x - first) * S ≤ length buf
-        from-inside = omega (arith, runs)
-
-        pub gather-lies : Lies (v .etype .entries) (v .etype .widths) (v .etype .displacements) p (length file) (length (take (length buf - (x - first) * S) (drop ((x - first) * S) buf)))
-        gather-lies = record {
-          kept = entries-kept v (h .ranged .kept);
-          inside = omega (arith, h .short);
-          fits = rw (← sized, tail-lent ((x - first) * S) buf, length-drop ((x - first) * S) buf) (omega (arith, runs));
+    -- the etype at x, which begins at p, does not lie in the file
+    pub gather-stop : x < first + c → (p : ℕ) → p ≡ s .tile .0 + nth (v .filetype .origins) (s .instance) → size < p + r → ReadDone v file size o c buf₀ (x - first) buf
+    unfolding moved
+    gather-stop l p begins q =
+        let at-x : first + (x - first) ≡ x = omega (arith, g .walk .begun) in
+        let n = in-file-no v (g .walk .kept) size x (omega (arith, g .reaches, walk-place v first (first + c) x s (g .walk) l p begins)) in
+        record {
+          count = passed-stop _ (x - first) c (g .passed) (omega (arith, g .walk .begun)) (rw at-x n) ∙ ap (λ (z : ℕ). moved (paper v) size z c) is;
+          buffer = g .done ∙ ap (λ (z : ℕ). readInto (paper v) file z (x - first) buf₀) is;
         }
 
-        pub gather-more : (part : List ℕ) (s' : Spot) → part ≡ front (byteIn (v .etype .entries) (v .etype .widths) (v .etype .displacements) file p) (sizeOf (v .etype .entries) (v .etype .widths)) (take (length buf - (x - first) * S) (drop ((x - first) * S) buf)) → s' ≡ nextSpot s (v .filetype .instances) (v .filetype .extent) → Gathering v file size first c buf₀ (take ((x - first) * S) buf ++ (part ++ drop (length buf - (x - first) * S) (drop ((x - first) * S) buf))) (x + 1) s'
-        unfolding readInto byteIn
-        gather-more part s' e n =
-            let b = tail-back (λ k. k) (byteIn (v .etype .entries) (v .etype .widths) (v .etype .displacements) file p) ((x - first) * S) (sizeOf (v .etype .entries) (v .etype .widths)) buf part from-inside e in
-            let t : x + 1 - first ≡ x - first + 1 = omega (arith, g .walk .begun) in
-            let y = in-file-yes v (h .ranged .kept) size x (omega (arith, p-is)) in
-            let m : (x - first) * dataSize (paper v) ≡ (x - first) * S = ap (λ (z : ℕ). (x - first) * z) (sym S-is) in
-            record {
-              walk = walk-more v first (first + c) x s (g .walk) l s' n;
-              passed = rw t (passed-more _ (x - first) c (g .passed) (omega (arith, g .walk .begun)) (rw at-x y));
-              long = ap length b ∙ length-store _ _ (sizeOf (v .etype .entries) (v .etype .widths)) buf ∙ g .long;
-              done = rw (t, times-more (x - first) (dataSize (paper v)))
-                  (store-run (λ k. k) (λ i. nth file (fileByte (paper v) first i)) (λ k. (x - first) * S + k) (byteIn (v .etype .entries) (v .etype .widths) (v .etype .displacements) file p) ((x - first) * dataSize (paper v)) (dataSize (paper v)) buf₀ buf _ (g .done) (b ∙ ap (λ (z : ℕ). front-from z) (data-is v (h .ranged .kept)))
-                  (λ k l. omega (arith, m))
-                  (λ k l. ap (nth file) (ap (λ (z : ℕ). placeIn (v .etype .entries) (v .etype .widths) (v .etype .displacements) z k) p-is ∙ place-in v (h .ranged .kept) x k ∙ ap (λ (z : ℕ). byteOf (paper v) z k) (sym at-x) ∙ sym (file-byte-run (paper v) first (x - first) k l))));
-            }
-          where
-            front-from : ℕ → List ℕ
-            front-from z = store (λ k. (x - first) * S + k) (byteIn (v .etype .entries) (v .etype .widths) (v .etype .displacements) file p) z buf
+-- the etype at x begins at p; S bytes from (x - o)·S on are lent
+module _ (v : View) (file buf₀ : List ℕ) (size o c S r : ℕ) (buf : List ℕ) (x : ℕ) (s : Spot) (g : Gathering v file size o c S r buf₀ buf x s) (l : x < o + c) where
+  runs : (x - o) * S + S ≤ length buf
+  runs = omega (arith, g .long, walk-room v o (o + c) x s (g .walk) l S (g .sized) c (length buf₀) refl (g .room))
 
-pub ruleset gathering = (needs, move-none, move-offset, last-fits, gathering-none, gather-all, walk-fits, walk-kept, walk-held, walk-step, walk-end-fits, gather-stop, from-fits, from-inside, gather-lies, gather-more, entries-kept)
+  pub from-fits : Fits w64 ((x - o) * S)
+  from-fits = record { fits = omega (arith, runs, g .long, g .held) }
+
+  pub from-inside : (x - o) * S ≤ length buf
+  from-inside = omega (arith, runs)
+
+  module _ (p : ℕ) (begins : p ≡ s .tile .0 + nth (v .filetype .origins) (s .instance)) where
+    p-is : p ≡ place (paper v) x
+    p-is = walk-place v o (o + c) x s (g .walk) l p begins
+
+    pub gather-end-fits : Fits w64 (p + r)
+    gather-end-fits = walk-end-fits v o (o + c) x s (g .walk) l p begins r (g .reaches)
+
+    -- it lies in the file
+    module _ (q : p + r ≤ size) where
+      pub gather-lies : Lies (v .etype .entries) (v .etype .widths) (v .etype .displacements) p (length file) (length (take (length buf - (x - o) * S) (drop ((x - o) * S) buf)))
+      gather-lies = record {
+        kept = entries-kept v (g .walk .kept);
+        allowed = entries-allowed v (g .walk .kept);
+        inside = omega (arith, g .short, g .reaches);
+        fits = rw (← g .sized, tail-lent ((x - o) * S) buf, length-drop ((x - o) * S) buf) (omega (arith, runs));
+      }
+
+      pub gather-more : (part : List ℕ) (s' : Spot) → part ≡ front (byteIn (v .etype .entries) (v .etype .widths) (v .etype .displacements) file p) (sizeOf (v .etype .entries) (v .etype .widths)) (take (length buf - (x - o) * S) (drop ((x - o) * S) buf)) → s' ≡ nextSpot s (v .filetype .instances) (v .filetype .extent) → Gathering v file size o c S r buf₀ (take ((x - o) * S) buf ++ (part ++ drop (length buf - (x - o) * S) (drop ((x - o) * S) buf))) (x + 1) s'
+      unfolding readInto byteIn
+      gather-more part s' e n =
+          let b = tail-back (λ k. k) (byteIn (v .etype .entries) (v .etype .widths) (v .etype .displacements) file p) ((x - o) * S) (sizeOf (v .etype .entries) (v .etype .widths)) buf part from-inside e in
+          let t : x + 1 - o ≡ x - o + 1 = omega (arith, g .walk .begun) in
+          let at-x : o + (x - o) ≡ x = omega (arith, g .walk .begun) in
+          let y = in-file-yes v (g .walk .kept) size x (omega (arith, p-is, g .reaches)) in
+          let S-is = walk-size v o (o + c) x s (g .walk) l S (g .sized) in
+          let m : (x - o) * dataSize (paper v) ≡ (x - o) * S = ap (λ (z : ℕ). (x - o) * z) (sym S-is) in
+          record {
+            walk = walk-more v o (o + c) x s (g .walk) l s' n;
+            sized = g .sized;
+            reaches = g .reaches;
+            short = g .short;
+            room = g .room;
+            held = g .held;
+            passed = rw t (passed-more _ (x - o) c (g .passed) (omega (arith, g .walk .begun)) (rw at-x y));
+            long = ap length b ∙ length-store _ _ (sizeOf (v .etype .entries) (v .etype .widths)) buf ∙ g .long;
+            done = rw (t, times-more (x - o) (dataSize (paper v)))
+                (store-run (λ k. k) (λ i. nth file (fileByte (paper v) o i)) (λ k. (x - o) * S + k) (byteIn (v .etype .entries) (v .etype .widths) (v .etype .displacements) file p) ((x - o) * dataSize (paper v)) (dataSize (paper v)) buf₀ buf _ (g .done) (b ∙ ap (λ (z : ℕ). front-from z) (data-is v (g .walk .kept)))
+                (λ k l. omega (arith, m))
+                (λ k l. ap (nth file) (ap (λ (z : ℕ). placeIn (v .etype .entries) (v .etype .widths) (v .etype .displacements) z k) p-is ∙ place-in v (g .walk .kept) x k ∙ ap (λ (z : ℕ). byteOf (paper v) z k) (sym at-x) ∙ sym (file-byte-run (paper v) o (x - o) k l))));
+          }
+        where
+          front-from : ℕ → List ℕ
+          front-from z = store (λ k. (x - o) * S + k) (byteIn (v .etype .entries) (v .etype .widths) (v .etype .displacements) file p) z buf
+
+pub ruleset gathering = (needs, move-none, move-offset, last-fits, gathering-none, gather-all, walk-fits, walk-kept, walk-held, walk-step, gather-end-fits, gather-stop, from-fits, from-inside, gather-lies, gather-more, entries-kept)

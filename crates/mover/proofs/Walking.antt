@@ -47,7 +47,7 @@ module _ (v : View) (o last x : ℕ) (s : Spot) (w : Walking v o last x s) (l : 
   pub walk-fits : Fits w64 (x + 1)
   walk-fits = record { fits = omega (arith, below) }
 
-  pub walk-kept : SpotKept (v .filetype) s
+  pub walk-kept : SpotKept (v .filetype .origins) s
   walk-kept = spot-kept v (w .kept) x s (w .spot) below
 
   pub walk-held : s .instance < 64

@@ -14,22 +14,27 @@ pub fn gather(v: View, file: &[u8], size: u64, o: Offset, count: u64, buf: &mut 
     if count == 0 {
         return 0;
     }
-    let etype = v.etype;
-    let filetype = v.filetype;
-    let packed = copier::data_size(etype);
-    let reach = rules::reach_of(etype);
+    let packed = copier::data_size(v.etype.entries, &v.etype.widths);
+    let reach = rules::reach_of(v.etype.entries, &v.etype.widths, &v.etype.displacements);
     let first = view::natural(o.0);
     let last = first + count;
     let mut spot = locate::spot_of(v, o);
     let mut x = first;
     while x < last {
-        let place = locate::begin_at(filetype, spot);
+        let place = locate::begin_at(&v.filetype.origins, spot);
         let end = place.0 + reach;
         if size < end {
             return x - first;
         }
         let from = ((x - first) * packed) as usize;
-        copier::copy_out(etype, file, place, &mut buf[from..]);
+        copier::copy_out(
+            v.etype.entries,
+            &v.etype.widths,
+            &v.etype.displacements,
+            file,
+            place,
+            &mut buf[from..],
+        );
         spot = locate::next_spot(spot, v.filetype.instances, v.filetype.extent);
         x += 1;
     }

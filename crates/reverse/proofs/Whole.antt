@@ -3,7 +3,6 @@ use Prim.Native.Nat.{ℕ, _+_, _*_, _/_, _%_, _≤_, _<_}
 use mathlib.Core.Bool.{cond}
 use mathlib.Core.Path.{_≡_, sym, ap, _∙_}
 use native.Mathlib.Omega.{arith}
-use borrow.Author.Needs.{needs}
 use lib.IntN.{pos}
 use lib.ListN.{getD}
 use mir.Syntax.{w64}
@@ -23,11 +22,11 @@ use Rattle.view.specs.Owners.{entryStart, offsetIn, indexIn, hits, hitEntry, ow
 use Rattle.view.proofs.Paper.{paper-entries, paper-file-entries, paper-width, paper-displacement, paper-file-width, paper-file-displacement, paper-file-extent, paper-start, paper-instances, paper-origin}
 use Rattle.view.proofs.Accepted.{Facts, facts, instances-few, origin-small}
 use Rattle.reverse.specs.Parts.{firstOwner, entryOwner, ownerAt, instanceOwner, InstanceKept}
-use Rattle.reverse.proofs.Firsts.{first-runs, first-same, first-searched, Missed, missed-none, missed-more, missed-stop, missed-end}
+use Rattle.reverse.proofs.Firsts.{first-runs, first-same, first-searched, Missed, missed-more, missed-stop, missed-end}
 
 -- what instance g answers, on the record
 unfoldable pub ownerFrom : View → ℕ → ℕ → Owner
-ownerFrom v b g = instanceOwner (v .etype) (v .filetype) g (v .displacement + nth (v .filetype .origins) g) b
+ownerFrom v b g = instanceOwner (v .etype .entries) (v .etype .widths) (v .etype .displacements) (v .filetype .extent) (v .filetype .instances) g (v .displacement + nth (v .filetype .origins) g) b
 
 module _ (v : View) (k : Kept (paper v)) where
   kept : Facts (paper v)
@@ -57,7 +56,7 @@ module _ (v : View) (k : Kept (paper v)) where
     pub begin-fits : Fits w64 (v .displacement + getD (v .filetype .origins) g 0)
     begin-fits = record { fits = omega (arith, record-origin g l, paper-start v, kept .start) }
 
-    pub instance-kept : InstanceKept (v .etype) (v .filetype) g (v .displacement + getD (v .filetype .origins) g 0)
+    pub instance-kept : InstanceKept (v .etype .entries) (v .etype .widths) (v .etype .displacements) (v .filetype .extent) (v .filetype .instances) g (v .displacement + getD (v .filetype .origins) g 0)
     instance-kept = record {
       tile = record { extent = omega (arith, paper-file-extent v, kept .file-extent .0); instance = l; few = few-instances };
       begins = omega (arith, record-origin g l, paper-start v, kept .start);
@@ -97,7 +96,7 @@ module _ (v : View) (k : Kept (paper v)) where
     unfolding packedBefore
     packed-is = total-same (widthAt (paper v .etype)) (nth (v .etype .widths)) i (λ j q. paper-width v j (omega arith))
 
-    entry-same : fileOwner b (g * v .etype .entries + i) ≡ ownerAt (v .etype) (v .filetype) g (v .displacement + nth (v .filetype .origins) g) b i
+    entry-same : fileOwner b (g * v .etype .entries + i) ≡ ownerAt (v .etype .widths) (v .etype .displacements) (v .filetype .extent) (v .filetype .instances) g (v .displacement + nth (v .filetype .origins) g) b i
     unfolding fileOwner hits offsetIn indexIn ownerAt entryOwner
     entry-same = rw (start-is, width-is, paper-file-extent v, paper-instances v some-entry, paper-entries v, group, entry, packed-is)
 
@@ -115,7 +114,7 @@ module _ (v : View) (k : Kept (paper v)) where
     pub lookup-end : v .filetype .instances ≤ g → Nobody ≡ ownerOf (paper v) b
     lookup-end l = missed-end (ownerFrom v b) (v .filetype .instances) g m l ∙ owner-is b
 
-    module _ (l : g < v .filetype .instances) (r : Owner) (h : r ≡ instanceOwner (v .etype) (v .filetype) g (v .displacement + getD (v .filetype .origins) g 0) b) where
+    module _ (l : g < v .filetype .instances) (r : Owner) (h : r ≡ instanceOwner (v .etype .entries) (v .etype .widths) (v .etype .displacements) (v .filetype .extent) (v .filetype .instances) g (v .displacement + getD (v .filetype .origins) g 0) b) where
       answered : r ≡ ownerFrom v b g
       unfolding ownerFrom
       answered = h
@@ -125,5 +124,3 @@ module _ (v : View) (k : Kept (paper v)) where
 
       pub lookup-stop : (x : Offset) (j : ℕ) → r ≡ Pair x j → r ≡ ownerOf (paper v) b
       lookup-stop x j q = missed-stop (ownerFrom v b) (v .filetype .instances) g m l r answered x j q ∙ owner-is b
-
-pub ruleset looking = (needs, missed-none, lookup-end, lookup-more, lookup-stop, origin-held, origin-scaled, begin-fits, instance-kept)

@@ -7,31 +7,38 @@ ghost use Rattle.view.specs.Rules.{Kept};
 ghost use Rattle.view.specs.Owners.{ownerOf};
 ghost use Rattle.reverse.specs.Parts.{entryOwner, instanceOwner, InstanceIn, InstanceKept};
 use view::BytePos;
-use view::Etype;
-use view::Filetype;
 use view::Owner;
+use view::PerEntry;
 use view::View;
 
 // The pair of byte `b` if it lies, in some tile, in an entry of instance `g`, or none.
 // In the first tile the entry begins at `start`; `packed` bytes stand before it in the packed data.
-fn owner_in_entry(f: Filetype, g: u64, start: BytePos, width: u64, packed: u64, b: BytePos) -> Owner
-    requires { ⌜ InstanceIn f g × (packed + width < 18446744073709551616) ⌝ }
-    ensures { λ r. ⌜ r ≡ entryOwner f g (start .0) width packed (b .0) ⌝ }
+fn owner_in_entry(
+    extent: u64,
+    instances: u64,
+    g: u64,
+    start: BytePos,
+    width: u64,
+    packed: u64,
+    b: BytePos,
+) -> Owner
+    requires { ⌜ InstanceIn extent instances g × (packed + width < 18446744073709551616) ⌝ }
+    ensures { λ r. ⌜ r ≡ entryOwner extent instances g (start .0) width packed (b .0) ⌝ }
 {
     if b.0 < start.0 {
         return Owner::Nobody;
     }
     let distance = b.0 - start.0;
-    let rest = distance % f.extent;
+    let rest = distance % extent;
     if width <= rest {
         return Owner::Nobody;
     }
-    let tile = distance / f.extent;
+    let tile = distance / extent;
     // Past this no offset of the tile is allowed, and the product below need not fit.
     if View::OFFSET_COUNT <= tile {
         return Owner::Nobody;
     }
-    let before = tile * f.instances;
+    let before = tile * instances;
     let offset = before + g;
     if View::OFFSET_COUNT <= offset {
         return Owner::Nobody;
@@ -41,17 +48,26 @@ fn owner_in_entry(f: Filetype, g: u64, start: BytePos, width: u64, packed: u64, 
 }
 
 // The pair of byte `b` if it lies, in some tile, in instance `g`, or none. In the first tile the instance begins at `begin`.
-fn owner_in_instance(e: Etype, f: Filetype, g: u64, begin: BytePos, b: BytePos) -> Owner
-    requires { ⌜ InstanceKept e f g (begin .0) ⌝ }
-    ensures { λ r. ⌜ r ≡ instanceOwner e f g (begin .0) (b .0) ⌝ }
+fn owner_in_instance<'a>(
+    entries: u64,
+    widths: &'a PerEntry,
+    displacements: &'a PerEntry,
+    extent: u64,
+    instances: u64,
+    g: u64,
+    begin: BytePos,
+    b: BytePos,
+) -> Owner
+    requires { ⌜ InstanceKept entries (now widths) (now displacements) extent instances g (begin .0) ⌝ }
+    ensures { λ r. ⌜ r ≡ instanceOwner entries (now (widths .entry)) (now (displacements .entry)) extent instances g (begin .0) (b .0) ⌝ }
 {
-    let n = e.entries as usize;
+    let n = entries as usize;
     let mut packed = 0;
     let mut i = 0;
     while i < n {
-        let width = e.widths[i];
-        let start = begin.0 + e.displacements[i];
-        let owner = owner_in_entry(f, g, BytePos(start), width, packed, b);
+        let width = widths[i];
+        let start = begin.0 + displacements[i];
+        let owner = owner_in_entry(extent, instances, g, BytePos(start), width, packed, b);
         if let Owner::Pair(_, _) = owner {
             return owner;
         }
@@ -66,12 +82,20 @@ pub fn owner_of(v: View, b: BytePos) -> Owner
     requires { ⌜ Kept (paper v) ⌝ }
     ensures { λ r. ⌜ r ≡ ownerOf (paper v) (b .0) ⌝ }
 {
-    let etype = v.etype;
     let filetype = v.filetype;
     let mut g = 0;
     while g < filetype.instances {
         let begin = v.displacement + filetype.origins[g as usize];
-        let owner = owner_in_instance(etype, filetype, g, BytePos(begin), b);
+        let owner = owner_in_instance(
+            v.etype.entries,
+            &v.etype.widths,
+            &v.etype.displacements,
+            filetype.extent,
+            filetype.instances,
+            g,
+            BytePos(begin),
+            b,
+        );
         if let Owner::Pair(_, _) = owner {
             return owner;
         }

@@ -3,9 +3,7 @@ use Prim.Native.Nat.{ℕ, _+_, _-_, _≤_, _<_}
 use mathlib.Core.Bool.{Bool, true, false, not}
 use mathlib.Core.List.{List}
 use mathlib.Core.Path.{_≡_, sym, _∙_}
-use native.Mathlib.Nat.{lt-of-lt-of-le}
 use native.Mathlib.Omega.{arith}
-use borrow.Author.Needs.{needs}
 use borrow.Author.Tests.{le-leb, lt-leb, not-true, not-false}
 use lib.Dec.{leb}
 use lib.ListN.{length, getD}
@@ -13,8 +11,8 @@ use mir.Syntax.{w64}
 use mir.Val.{Fits}
 use Rattle.laws.specs.Lists.{nth}
 use Rattle.laws.proofs.Booleans.{also-false}
-use Rattle.laws.proofs.Sums.{Highest, highest-none, highest-more, highest-end}
-use Rattle.laws.proofs.Searching.{Passed, passed-none, passed-more, passed-fails, passed-holds, all-intro}
+use Rattle.laws.proofs.Sums.{Highest, highest-end}
+use Rattle.laws.proofs.Searching.{Passed, passed-fails, passed-holds, all-intro}
 use Rattle.view.specs.Limits.{widthAllowed}
 use Rattle.view.specs.Rules.{ordered}
 use Rattle.view.proofs.Accepted.{width-small}
@@ -38,8 +36,6 @@ entry-true ws ds i t h n = sym h ∙ not-false t n
 pub entry-false : (ws ds : List ℕ) (i : ℕ) (t : Bool) → t ≡ entryFits (getD ws i 0) (getD ds i 0) → not t ≡ true → entryHeld ws ds i ≡ false
 unfolding entryHeld
 entry-false ws ds i t h n = sym h ∙ not-true t n
-
-pub ruleset entering = (needs, passed-none, passed-more, passed-fails, passed-holds, entry-true, entry-false, lt-of-lt-of-le)
 
 -- ---- ordered
 
@@ -65,29 +61,16 @@ pub ordered-holds : (ds : List ℕ) (i : ℕ) → Passed (inOrder ds) i (length 
 unfolding ordered
 ordered-holds ds i s l = passed-holds (inOrder ds) i (length ds - 1) s l
 
-pub ruleset ordering = (needs, passed-none, passed-more, in-order, out-of-order, ordered-none, ordered-fails, ordered-holds)
-
 -- ---- the reach of the entries
 
 pub end-fits : (n : ℕ) (ws ds : List ℕ) (i : ℕ) → EntriesKept n ws ds → i < n → Fits w64 (getD ds i 0 + getD ws i 0)
 end-fits n ws ds i k l = record { fits = omega (arith, k .ends i l) }
 
-pub index-in : (n : ℕ) (ws ds : List ℕ) (i : ℕ) → EntriesKept n ws ds → i < n → i < 8
-index-in n ws ds i k l = omega (arith, k .few)
-
 pub reach-is : (n : ℕ) (ws ds : List ℕ) (i m : ℕ) → Highest (entryEnd ws ds) i n m → n ≤ i → m ≡ reachOf ws ds n
 unfolding reachOf
 reach-is n ws ds i m h l = highest-end (entryEnd ws ds) i n m h l
 
-pub ruleset reaching = (needs, highest-none, highest-more, end-fits, index-in, reach-is)
-
 -- ---- origins
-
-pub origin-in : (k g : ℕ) → g < k → k ≤ 64 → g < 64
-origin-in k g l h = omega arith
-
-pub next-in : (k g : ℕ) → g < k - 1 → k ≤ 64 → g + 1 < 64
-next-in k g l h = omega arith
 
 -- an origin past the limit, or one within it that the reach carries past it
 pub reach-past : (ps : List ℕ) (reach g : ℕ) → 1048576 < getD ps g 0 → reachAt ps reach g ≡ false
@@ -102,11 +85,6 @@ pub reach-within : (ps : List ℕ) (reach g : ℕ) → getD ps g 0 + reach ≤ 1
 unfolding reachAt
 reach-within ps reach g h = le-leb _ _ h
 
-pub reach-fits : (p reach : ℕ) → p ≤ 1048576 → reach ≤ 1048576 → Fits w64 (p + reach)
-reach-fits p reach h k = record { fits = omega arith }
-
-pub ruleset reaching-origins = (needs, passed-none, passed-more, passed-fails, passed-holds, origin-in, reach-past, reach-over, reach-within, reach-fits)
-
 -- ---- from one instance to the next
 
 pub step-fits : (k : ℕ) (ps : List ℕ) (g a : ℕ) → OriginsKept k ps → g < k - 1 → a ≤ 1048576 → Fits w64 (getD ps g 0 + a)
@@ -114,12 +92,6 @@ step-fits k ps g a o l h = record { fits = omega (arith, o .small g (omega arith
 
 pub next-fits : (k : ℕ) (ps : List ℕ) (g b : ℕ) → OriginsKept k ps → g < k - 1 → b ≤ 1048576 → Fits w64 (getD ps (g + 1) 0 + b)
 next-fits k ps g b o l h = record { fits = omega (arith, o .small (g + 1) (omega arith)) }
-
-pub step-in : (k : ℕ) (ps : List ℕ) (g : ℕ) → OriginsKept k ps → g < k - 1 → g < 64
-step-in k ps g o l = omega (arith, o .few)
-
-pub step-next-in : (k : ℕ) (ps : List ℕ) (g : ℕ) → OriginsKept k ps → g < k - 1 → g + 1 < 64
-step-next-in k ps g o l = omega (arith, o .few)
 
 pub step-true : (ps : List ℕ) (a b g : ℕ) → getD ps g 0 + a ≤ getD ps (g + 1) 0 + b → stepAt ps a b g ≡ true
 unfolding stepAt
@@ -129,18 +101,10 @@ pub step-false : (ps : List ℕ) (a b g : ℕ) → getD ps (g + 1) 0 + b < getD 
 unfolding stepAt
 step-false ps a b g h = lt-leb _ _ h
 
-pub ruleset stepping = (needs, passed-none, passed-more, passed-fails, passed-holds, step-fits, next-fits, step-in, step-next-in, step-true, step-false)
-
 -- ---- entries apart
 
 pub apart-fits : (n : ℕ) (ws ds : List ℕ) (i : ℕ) → EntriesKept n ws ds → i < n - 1 → Fits w64 (getD ds i 0 + getD ws i 0)
 apart-fits n ws ds i k l = record { fits = omega (arith, k .ends i (omega arith)) }
-
-pub apart-in : (n : ℕ) (ws ds : List ℕ) (i : ℕ) → EntriesKept n ws ds → i < n - 1 → i < 8
-apart-in n ws ds i k l = omega (arith, k .few)
-
-pub apart-next-in : (n : ℕ) (ws ds : List ℕ) (i : ℕ) → EntriesKept n ws ds → i < n - 1 → i + 1 < 8
-apart-next-in n ws ds i k l = omega (arith, k .few)
 
 pub apart-true : (ws ds : List ℕ) (i : ℕ) → getD ds i 0 + getD ws i 0 ≤ getD ds (i + 1) 0 → apartAt ws ds i ≡ true
 unfolding apartAt
@@ -149,5 +113,3 @@ apart-true ws ds i h = le-leb _ _ h
 pub apart-false : (ws ds : List ℕ) (i : ℕ) → getD ds (i + 1) 0 < getD ds i 0 + getD ws i 0 → apartAt ws ds i ≡ false
 unfolding apartAt
 apart-false ws ds i h = lt-leb _ _ h
-
-pub ruleset parting = (needs, passed-none, passed-more, passed-fails, passed-holds, apart-fits, apart-in, apart-next-in, apart-true, apart-false)

@@ -4,7 +4,6 @@ use mathlib.Core.Bool.{Bool, true, false}
 use mathlib.Core.List.{List}
 use mathlib.Core.Path.{_≡_, sym, ap, _∙_}
 use native.Mathlib.Omega.{arith}
-use borrow.Author.Needs.{needs}
 use borrow.Author.Tests.{lt-ltb, le-ltb, eq-eqb, ne-eqb}
 use lib.Dec.{eqb}
 use lib.ListN.{getD}
@@ -71,11 +70,3 @@ module _ (ps : List ℕ) (k e f : ℕ) where
       ends : (t : Bool) → eqb (hole (nth ps) k e f i % e) 0 ≡ t → t ≡ all (λ x. eqb (hole (nth ps) k e f x % e) 0) (k + 1)
       ends true z = passed-holds _ (i + 1) (k + 1) (passed-more _ i (k + 1) s (omega arith) z) (omega arith)
       ends false z = passed-fails _ i (k + 1) s (omega arith) z
-
-pub origin-in : (k g : ℕ) → g < k → k ≤ 64 → g < 64
-origin-in k g l h = omega arith
-
-pub before-in : (k g : ℕ) → g < k → k ≤ 64 → g - 1 < 64
-before-in k g l h = omega arith
-
-pub ruleset holing = (needs, hole-first, hole-first-no, hole-between, hole-between-no, holes-fail, holes-fail-first, holes-passed, holes-more, holes-last, origin-in, before-in)

@@ -6,7 +6,6 @@ use lib.Dec.{leb, eqb}
 use Rattle.laws.specs.Checks.{also}
 use Rattle.laws.specs.Search.{all, greatest}
 use Rattle.laws.specs.Lists.{nth}
-use Rattle.view.specs.declared.Filetype.{Filetype}
 use Rattle.view.specs.Limits.{maxEtypeEntries, maxInstances, maxEntryEnd, widthAllowed}
 use Rattle.view.specs.Rules.{hole}
 
@@ -48,8 +47,8 @@ reachAt ps reach g = leb (nth ps g + reach) maxEntryEnd
 unfoldable pub stepAt : List ℕ → ℕ → ℕ → ℕ → Bool
 stepAt ps a b g = leb (nth ps g + a) (nth ps (g + 1) + b)
 
-unfoldable pub originsStep : Filetype → ℕ → ℕ → Bool
-originsStep f a b = all (stepAt (f .origins) a b) (f .instances - 1)
+unfoldable pub originsStep : List ℕ → ℕ → ℕ → ℕ → Bool
+originsStep ps k a b = all (stepAt ps a b) (k - 1)
 
 -- the hole before instance i is a multiple of e
 unfoldable pub holeFits : List ℕ → ℕ → ℕ → ℕ → ℕ → Bool

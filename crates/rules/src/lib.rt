@@ -7,8 +7,8 @@ ghost use Rattle.laws.specs.Search.{all};
 ghost use Rattle.view.specs.Limits.{maxInstances, maxEtypeEntries, maxEntryEnd, widthAllowed};
 ghost use Rattle.view.specs.Rules.{ordered, holesFit, allowsWriting};
 ghost use Rattle.rules.specs.Parts.{entryFits, entryHeld, EntriesKept, reachOf, OriginsKept, reachAt, originsStep, apartAt};
-use view::Etype;
-use view::Filetype;
+use view::PerEntry;
+use view::PerInstance;
 use view::View;
 
 // Width: 1, 2, 4 or 8. For our own crates.
@@ -51,13 +51,11 @@ pub fn entry_fits(w: u64, d: u64) -> bool
 }
 
 // Whether each entry of an etype is allowed. For our own crates.
-pub fn entries_fit(e: Etype) -> bool
-    requires { ⌜ e .entries ≤ maxEtypeEntries ⌝ }
-    ensures { λ r. ⌜ r ≡ all (entryHeld (e .widths) (e .displacements)) (e .entries) ⌝ }
+pub fn entries_fit<'a>(entries: u64, widths: &'a PerEntry, displacements: &'a PerEntry) -> bool
+    requires { ⌜ entries ≤ maxEtypeEntries ⌝ }
+    ensures { λ r. ⌜ r ≡ all (entryHeld (now (widths .entry)) (now (displacements .entry))) entries ⌝ }
 {
-    let n = e.entries as usize;
-    let widths = e.widths;
-    let displacements = e.displacements;
+    let n = entries as usize;
     let mut i = 0;
     while i < n {
         if !entry_fits(widths[i], displacements[i]) {
@@ -88,13 +86,11 @@ pub fn never_decrease(ds: &[u64]) -> bool
 }
 
 // How far the etype's entries reach. For our own crates.
-pub fn reach_of(e: Etype) -> u64
-    requires { ⌜ EntriesKept (e .entries) (e .widths) (e .displacements) ⌝ }
-    ensures { λ r. ⌜ r ≡ reachOf (e .widths) (e .displacements) (e .entries) ⌝ }
+pub fn reach_of<'a>(entries: u64, widths: &'a PerEntry, displacements: &'a PerEntry) -> u64
+    requires { ⌜ EntriesKept entries (now widths) (now displacements) ⌝ }
+    ensures { λ r. ⌜ r ≡ reachOf (now (widths .entry)) (now (displacements .entry)) entries ⌝ }
 {
-    let n = e.entries as usize;
-    let widths = e.widths;
-    let displacements = e.displacements;
+    let n = entries as usize;
     let mut reach = 0;
     let mut i = 0;
     while i < n {
@@ -106,12 +102,11 @@ pub fn reach_of(e: Etype) -> u64
 }
 
 // Whether each instance ends within the limit. For our own crates.
-pub fn instances_fit(f: Filetype, reach: u64) -> bool
-    requires { ⌜ (f .instances ≤ maxInstances) × (reach ≤ maxEntryEnd) ⌝ }
-    ensures { λ r. ⌜ r ≡ all (reachAt (f .origins) reach) (f .instances) ⌝ }
+pub fn instances_fit(instances: u64, origins: &PerInstance, reach: u64) -> bool
+    requires { ⌜ (instances ≤ maxInstances) × (reach ≤ maxEntryEnd) ⌝ }
+    ensures { λ r. ⌜ r ≡ all (reachAt (now (origins .entry)) reach) instances ⌝ }
 {
-    let k = f.instances as usize;
-    let origins = f.origins;
+    let k = instances as usize;
     let mut g = 0;
     while g < k {
         let p = origins[g];
@@ -127,12 +122,11 @@ pub fn instances_fit(f: Filetype, reach: u64) -> bool
 }
 
 // Whether `a` from the beginning of each instance is at most `b` from the beginning of the next. For our own crates.
-pub fn instances_step(f: Filetype, a: u64, b: u64) -> bool
-    requires { ⌜ OriginsKept (f .instances) (f .origins) × (a ≤ maxEntryEnd) × (b ≤ maxEntryEnd) ⌝ }
-    ensures { λ r. ⌜ r ≡ originsStep f a b ⌝ }
+pub fn instances_step(instances: u64, origins: &PerInstance, a: u64, b: u64) -> bool
+    requires { ⌜ OriginsKept instances (now origins) × (a ≤ maxEntryEnd) × (b ≤ maxEntryEnd) ⌝ }
+    ensures { λ r. ⌜ r ≡ originsStep (now (origins .entry)) instances a b ⌝ }
 {
-    let k = f.instances as usize;
-    let origins = f.origins;
+    let k = instances as usize;
     let last = k - 1;
     let mut g = 0;
     while g < last {
@@ -148,13 +142,11 @@ pub fn instances_step(f: Filetype, a: u64, b: u64) -> bool
 }
 
 // Whether each entry of the etype ends at or before the next one begins. For our own crates.
-pub fn entries_apart(e: Etype) -> bool
-    requires { ⌜ EntriesKept (e .entries) (e .widths) (e .displacements) ⌝ }
-    ensures { λ r. ⌜ r ≡ all (apartAt (e .widths) (e .displacements)) (e .entries - 1) ⌝ }
+pub fn entries_apart<'a>(entries: u64, widths: &'a PerEntry, displacements: &'a PerEntry) -> bool
+    requires { ⌜ EntriesKept entries (now widths) (now displacements) ⌝ }
+    ensures { λ r. ⌜ r ≡ all (apartAt (now (widths .entry)) (now (displacements .entry))) (entries - 1) ⌝ }
 {
-    let n = e.entries as usize;
-    let widths = e.widths;
-    let displacements = e.displacements;
+    let n = entries as usize;
     let last = n - 1;
     let mut i = 0;
     while i < last {
@@ -169,13 +161,11 @@ pub fn entries_apart(e: Etype) -> bool
 }
 
 // Whether each hole of a filetype is a multiple of the etype's extent `e`. For our own crates.
-pub fn holes_fit(f: Filetype, e: u64) -> bool
-    requires { ⌜ (0 < f .instances) × (f .instances ≤ maxInstances) × (0 < e) ⌝ }
-    ensures { λ r. ⌜ r ≡ holesFit (nth (f .origins)) (f .instances) e (f .extent) ⌝ }
+pub fn holes_fit(instances: u64, origins: &PerInstance, extent: u64, e: u64) -> bool
+    requires { ⌜ (0 < instances) × (instances ≤ maxInstances) × (0 < e) ⌝ }
+    ensures { λ r. ⌜ r ≡ holesFit (nth (now (origins .entry))) instances e extent ⌝ }
 {
-    let k = f.instances as usize;
-    let extent = f.extent;
-    let origins = f.origins;
+    let k = instances as usize;
     if origins[0] % e != 0 {
         return false;
     }

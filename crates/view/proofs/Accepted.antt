@@ -160,6 +160,7 @@ pub record Facts (v : PaperView) : Type 0 where
   pub file-few : entries (v .filetype) ≤ 64 * entries (v .etype)
   pub extent : (1 ≤ extentOf (v .etype)) × (extentOf (v .etype) ≤ 1048576)
   pub file-extent : (1 ≤ extentOf (v .filetype)) × (extentOf (v .filetype) ≤ 1048576)
+  pub allowed : (i : ℕ) → i < entries (v .etype) → widthAllowed (widthAt (v .etype) i) ≡ true
   pub width : (i : ℕ) → i < entries (v .etype) → (1 ≤ widthAt (v .etype) i) × (widthAt (v .etype) i ≤ 8)
   pub ends : (i : ℕ) → i < entries (v .etype) → displacementAt (v .etype) i + widthAt (v .etype) i ≤ 1048576
   pub file-ends : (i : ℕ) → i < entries (v .filetype) → displacementAt (v .filetype) i + widthAt (v .filetype) i ≤ 1048576
@@ -250,6 +251,7 @@ module _ (v : PaperView) (r : Rules 1 v) where
     file-few = file-counts .1;
     extent = extents .0;
     file-extent = extents .1;
+    allowed = λ i l. type-entry (v .etype) (r .etype-allowed) i l .0;
     width = λ i l. width-small (widthAt (v .etype) i) (type-entry (v .etype) (r .etype-allowed) i l .0);
     ends = λ i l. type-entry (v .etype) (r .etype-allowed) i l .1;
     file-ends = λ i l. type-entry (v .filetype) (r .filetype-allowed) i l .1;

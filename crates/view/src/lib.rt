@@ -11,18 +11,23 @@ pub struct Offset(pub i64);
 // A byte position in the file.
 pub struct BytePos(pub u64);
 
+// A number for each entry of an etype, and one for each instance in a filetype. Inner functions borrow these lists, so that no call copies them.
+pub type PerEntry = [u64; View::MAX_ETYPE_ENTRIES as usize];
+
+pub type PerInstance = [u64; View::MAX_INSTANCES as usize];
+
 // An etype: the first `entries` places of both lists, and the extent. Places past those mean nothing.
 pub struct Etype {
     pub entries: u64,
-    pub widths: [u64; View::MAX_ETYPE_ENTRIES as usize],
-    pub displacements: [u64; View::MAX_ETYPE_ENTRIES as usize],
+    pub widths: PerEntry,
+    pub displacements: PerEntry,
     pub extent: u64,
 }
 
 // A filetype, built of the etype: instance i is the etype shifted by origin i. Places past `instances` mean nothing.
 pub struct Filetype {
     pub instances: u64,
-    pub origins: [u64; View::MAX_INSTANCES as usize],
+    pub origins: PerInstance,
     pub extent: u64,
 }
 

@@ -108,9 +108,10 @@ module _ (v : View) (k : Kept (paper v)) where
 
 -- ---- the walk over these offsets
 
--- of those before x, the greatest end
-pub record Ending (v : View) (from last x : ℕ) (s : Spot) (end : ℕ) : Type 0 where
+-- of those before x, the greatest end; r is how far an etype reaches
+pub record Ending (v : View) (from last r x : ℕ) (s : Spot) (end : ℕ) : Type 0 where
   pub walk : Walking v from last x s
+  pub reaches : r ≡ reachOf (v .etype .widths) (v .etype .displacements) (v .etype .entries)
   pub is : end ≡ greatest (λ i. endAt v (from + i)) (x - from)
 
 pub end-none : (v : View) (o c : ℕ) → c ≡ 0 → 0 ≡ writeEnd (paper v) o c
@@ -141,29 +142,33 @@ module _ (v : View) (o : ℤ) (c : ℕ) (h : Ranged v o c) (n : c ≡ 0 → ⊥)
       unfolding offsetAllowed
       from-allowed = rw q (lt-ltb (first + (c - t)) 4294967296 (omega (arith, bound, tail-some)))
 
-      pub ending-none : (s : Spot) → SpotAt (paper v) (whole z) s → Ending v (first + (c - t)) (first + (c - t) + t) (first + (c - t)) s 0
+      pub ending-none : (s : Spot) → SpotAt (paper v) (whole z) s → (r : ℕ) → r ≡ reachOf (v .etype .widths) (v .etype .displacements) (v .etype .entries) → Ending v (first + (c - t)) (first + (c - t) + t) r (first + (c - t)) s 0
       unfolding whole greatest
-      ending-none s at =
+      ending-none s at r reaches =
           let d : first + (c - t) - (first + (c - t)) ≡ 0 = omega arith in
-          record { walk = walk-none v _ _ s (h .kept) bound (omega arith) (rw q at at); is = rw d }
+          record { walk = walk-none v _ _ s (h .kept) bound (omega arith) (rw q at at); reaches = reaches; is = rw d }
 
-    pub ending-end : (x : ℕ) (s : Spot) (end : ℕ) → Ending v (first + (c - t)) (first + (c - t) + t) x s end → first + (c - t) + t ≤ x → end ≡ writeEnd (paper v) (whole o) c
+    pub ending-end : (r x : ℕ) (s : Spot) (end : ℕ) → Ending v (first + (c - t)) (first + (c - t) + t) r x s end → first + (c - t) + t ≤ x → end ≡ writeEnd (paper v) (whole o) c
     unfolding ends
-    ending-end x s end g l =
+    ending-end r x s end g l =
         let d : x - (first + (c - t)) ≡ t = omega (arith, g .walk .reached) in
         let f = first-is v o c h n first read in
         let w : t ≡ min c (instances (paper v)) = e ∙ ap (min c) (sym (paper-instances v (omega (arith, entries-kept v (h .kept) .some)))) in
         g .is ∙ ap (greatest (λ i. endAt v (first + (c - t) + i))) d ∙ tail-is v (h .kept) first c t w ∙ ap (λ (y : ℕ). writeEnd (paper v) y c) f
 
-pub ending-more : (v : View) (from last x : ℕ) (s : Spot) (end : ℕ) → Ending v from last x s end → x < last → (p : ℕ) → p ≡ s .tile .0 + nth (v .filetype .origins) (s .instance) → (r : ℕ) → r ≡ reachOf (v .etype .widths) (v .etype .displacements) (v .etype .entries) → (m : ℕ) → m ≡ max end (p + r) → (s' : Spot) → s' ≡ nextSpot s (v .filetype .instances) (v .filetype .extent) → Ending v from last (x + 1) s' m
+pub ending-more : (v : View) (from last r x : ℕ) (s : Spot) (end : ℕ) → Ending v from last r x s end → x < last → (p : ℕ) → p ≡ s .tile .0 + nth (v .filetype .origins) (s .instance) → (m : ℕ) → m ≡ max end (p + r) → (s' : Spot) → s' ≡ nextSpot s (v .filetype .instances) (v .filetype .extent) → Ending v from last r (x + 1) s' m
 unfolding greatest
-ending-more v from last x s end g l p begins r reaches m e s' n =
+ending-more v from last r x s end g l p begins m e s' n =
     let d : x + 1 - from ≡ suc (x - from) = omega (arith, g .walk .begun) in
     let a : from + (x - from) ≡ x = omega (arith, g .walk .begun) in
-    let q : p + r ≡ place (paper v) (from + (x - from)) + reach v = omega (arith, walk-place v from last x s (g .walk) l p begins, ap (place (paper v)) a) in
+    let q : p + r ≡ place (paper v) (from + (x - from)) + reach v = omega (arith, g .reaches, walk-place v from last x s (g .walk) l p begins, ap (place (paper v)) a) in
     record {
       walk = walk-more v from last x s (g .walk) l s' n;
+      reaches = g .reaches;
       is = rw d (e ∙ ap (λ (y : ℕ). max y (p + r)) (g .is) ∙ ap (max (greatest (λ i. endAt v (from + i)) (x - from))) q);
     }
 
-pub ruleset ending = (needs, end-none, entries-kept, tail-few, from-fits, tail-fits, from-signed, from-allowed, ending-none, walk-kept, walk-end-fits, walk-held, walk-step, walk-fits, ending-more, ending-end)
+pub ending-fits : (v : View) (from last r x : ℕ) (s : Spot) (end : ℕ) → Ending v from last r x s end → x < last → (p : ℕ) → p ≡ s .tile .0 + nth (v .filetype .origins) (s .instance) → Fits w64 (p + r)
+ending-fits v from last r x s end g l p begins = walk-end-fits v from last x s (g .walk) l p begins r (g .reaches)
+
+pub ruleset ending = (needs, end-none, entries-kept, tail-few, from-fits, tail-fits, from-signed, from-allowed, ending-none, walk-kept, ending-fits, walk-held, walk-step, walk-fits, ending-more, ending-end)

@@ -22,13 +22,18 @@ use Rattle.locate.specs.declared.Spot.{Spot}
 use Rattle.locate.specs.Spots.{SpotAt, nextSpot}
 use Rattle.copier.specs.Parts.{onward, always, sizeOf, placeIn, Lies}
 use Rattle.mover.specs.Moves.{fileByte, writeEnd, newSize, written}
-use Rattle.mover.proofs.Etypes.{reach, entries-kept, data-is, place-in, data-last}
+use Rattle.mover.proofs.Etypes.{entries-allowed, reach, entries-kept, data-is, place-in, data-last}
 use Rattle.mover.proofs.Walking.{file-byte-run, Walking, walk-fits, walk-kept, walk-held, walk-step, walk-more, walk-place, walk-size, walk-room, move-offset, first-is, last-fits, walk-begun}
 use Rattle.mover.proofs.Writing.{write-end-is}
 use Rattle.writer.specs.Parts.{Storable, Writable, WriteDone}
 
-pub record Scattering (v : View) (buf : List ℕ) (o c : ℕ) (file₀ file : List ℕ) (x : ℕ) (s : Spot) : Type 0 where
+-- S is the data size
+pub record Scattering (v : View) (buf : List ℕ) (o c S : ℕ) (file₀ file : List ℕ) (x : ℕ) (s : Spot) : Type 0 where
   pub walk : Walking v o (o + c) x s
+  pub sized : S ≡ sizeOf (v .etype .entries) (v .etype .widths)
+  pub room : c * dataSize (paper v) ≤ length buf
+  pub held : length buf < 2 ^ 64
+  pub ends : writeEnd (paper v) o c ≤ length file₀
   pub long : length file ≡ length file₀
   pub done : file ≡ store (fileByte (paper v) o) (nth buf) ((x - o) * dataSize (paper v)) file₀
 
@@ -36,74 +41,83 @@ pub record Scattering (v : View) (buf : List ℕ) (o c : ℕ) (file₀ file : Li
 pub scatter-none : (v : View) (buf : List ℕ) (o : ℤ) (c : ℕ) (file : List ℕ) → c ≡ 0 → file ≡ store (fileByte (paper v) (whole o)) (nth buf) (c * dataSize (paper v)) file
 scatter-none v buf o c file e = rw (e, zero-mul (dataSize (paper v))) (store-none _ _ file)
 
-module _ (v : View) (buf file₀ : List ℕ) (o : ℤ) (c : ℕ) (h : Storable v (length file₀) o c (length buf)) (some : c ≡ 0 → ⊥) (first : ℕ) (read : first ≡ whole (toZ w64 (ofZ w64 o))) where
+module _ (v : View) (buf file₀ : List ℕ) (o : ℤ) (c : ℕ) (h : Storable v (length file₀) o c (length buf)) (some : c ≡ 0 → ⊥) (first : ℕ) (read : first ≡ whole (toZ w64 (ofZ w64 o))) (S : ℕ) where
   is : first ≡ whole o
   is = first-is v o c (h .ranged) some first read
 
-  pub scattering-none : (s : Spot) → SpotAt (paper v) (whole o) s → Scattering v buf first c file₀ file₀ first s
-  scattering-none s at =
+  pub scattering-none : S ≡ sizeOf (v .etype .entries) (v .etype .widths) → (s : Spot) → SpotAt (paper v) (whole o) s → length buf < 2 ^ 64 → Scattering v buf first c S file₀ file₀ first s
+  scattering-none sized s at held =
       let e : first - first ≡ 0 = omega arith in
       record {
         walk = walk-begun v o c (h .ranged) some first read s at;
+        sized = sized;
+        room = h .room;
+        held = held;
+        ends = rw is (h .ends);
         long = refl;
         done = rw (e, zero-mul (dataSize (paper v))) (store-none _ _ file₀);
       }
 
-  module _ (file : List ℕ) (x : ℕ) (s : Spot) (g : Scattering v buf first c file₀ file x s) where
-    pub scatter-all : first + c ≤ x → file ≡ store (fileByte (paper v) (whole o)) (nth buf) (c * dataSize (paper v)) file₀
-    scatter-all l =
-        let e : x - first ≡ c = omega (arith, g .walk .reached) in
-        g .done ∙ (λ j. store (fileByte (paper v) (is j)) (nth buf) (e j * dataSize (paper v)) file₀)
+  pub scatter-all : (file : List ℕ) (x : ℕ) (s : Spot) → Scattering v buf first c S file₀ file x s → first + c ≤ x → file ≡ store (fileByte (paper v) (whole o)) (nth buf) (c * dataSize (paper v)) file₀
+  scatter-all file x s g l =
+      let e : x - first ≡ c = omega (arith, g .walk .reached) in
+      g .done ∙ (λ j. store (fileByte (paper v) (is j)) (nth buf) (e j * dataSize (paper v)) file₀)
 
-    -- p is where the etype at x begins; S bytes from (x - first)·S on are lent
-    module _ (l : x < first + c) (p : ℕ) (begins : p ≡ s .tile .0 + nth (v .filetype .origins) (s .instance)) (S : ℕ) (sized : S ≡ sizeOf (v .etype .entries) (v .etype .widths)) where
-      p-is : p ≡ place (paper v) x
-      p-is = walk-place v first (first + c) x s (g .walk) l p begins
+-- the etype at x begins at p; S bytes from (x - o)·S on are lent
+module _ (v : View) (buf file₀ : List ℕ) (o c S : ℕ) (file : List ℕ) (x : ℕ) (s : Spot) (g : Scattering v buf o c S file₀ file x s) (l : x < o + c) where
+  at-x : o + (x - o) ≡ x
+  at-x = omega (arith, g .walk .begun)
 
-      at-x : first + (x - first) ≡ x
-      at-x = omega (arith, g .walk .begun)
+  S-is : S ≡ dataSize (paper v)
+  S-is = walk-size v o (o + c) x s (g .walk) l S (g .sized)
 
-      S-is : S ≡ dataSize (paper v)
-      S-is = walk-size v first (first + c) x s (g .walk) l S sized
+  runs : (x - o) * S + S ≤ length buf
+  runs = walk-room v o (o + c) x s (g .walk) l S (g .sized) c (length buf) refl (g .room)
 
-      runs : (x - first) * S + S ≤ length buf
-      runs = walk-room v first (first + c) x s (g .walk) l S sized c (length buf) refl (h .room)
+  pub from-fits : Fits w64 ((x - o) * S)
+  from-fits = record { fits = omega (arith, runs, g .held) }
 
-      pub from-fits : length buf < 2 ^ 64 → Fits w64 ((x - first) * S)
-      from-fits b = record { fits = omega (arith, runs) }
+  pub from-inside : (x - o) * S ≤ length buf
+  from-inside = omega (arith, runs)
 
-      pub from-inside : (x - first) * S ≤ length buf
-      from-inside = omega (arith, runs)
+  module _ (p : ℕ) (begins : p ≡ s .tile .0 + nth (v .filetype .origins) (s .instance)) where
+    p-is : p ≡ place (paper v) x
+    p-is = walk-place v o (o + c) x s (g .walk) l p begins
 
-      -- the etype's last byte is one that the write maps, and so it lies in the file
-      inside : p + reach v ≤ length file₀
-      unfolding byteOf
-      inside =
-          let d = data-last v (h .ranged .kept) in
-          let i = run-below c (dataSize (paper v)) (x - first) (data-last v (h .ranged .kept) .0) (omega (arith, g .walk .begun)) (data-last v (h .ranged .kept) .1 .0) in
-          let b = write-end-is (paper v) first c .above ((x - first) * dataSize (paper v) + data-last v (h .ranged .kept) .0) i in
-          let f = file-byte-run (paper v) first (x - first) (data-last v (h .ranged .kept) .0) (data-last v (h .ranged .kept) .1 .0) in
-          omega (arith, p-is, ap (place (paper v)) at-x, data-last v (h .ranged .kept) .1 .1, h .ends, ap (λ (z : ℕ). writeEnd (paper v) z c) is)
+    -- the etype's last byte is one that the write maps, and so it lies in the file
+    inside : p + reach v ≤ length file₀
+    unfolding byteOf
+    inside =
+        let d = data-last v (g .walk .kept) in
+        let i = run-below c (dataSize (paper v)) (x - o) (data-last v (g .walk .kept) .0) (omega (arith, g .walk .begun)) (data-last v (g .walk .kept) .1 .0) in
+        let b = write-end-is (paper v) o c .above ((x - o) * dataSize (paper v) + data-last v (g .walk .kept) .0) i in
+        let f = file-byte-run (paper v) o (x - o) (data-last v (g .walk .kept) .0) (data-last v (g .walk .kept) .1 .0) in
+        omega (arith, p-is, ap (place (paper v)) at-x, data-last v (g .walk .kept) .1 .1, g .ends)
 
-      pub scatter-lies : Lies (v .etype .entries) (v .etype .widths) (v .etype .displacements) p (length file) (length (take (length buf - (x - first) * S) (drop ((x - first) * S) buf)))
-      scatter-lies = record {
-        kept = entries-kept v (h .ranged .kept);
-        inside = omega (arith, inside, g .long);
-        fits = rw (← sized, tail-lent ((x - first) * S) buf, length-drop ((x - first) * S) buf) (omega (arith, runs));
-      }
+    pub scatter-lies : Lies (v .etype .entries) (v .etype .widths) (v .etype .displacements) p (length file) (length (take (length buf - (x - o) * S) (drop ((x - o) * S) buf)))
+    scatter-lies = record {
+      kept = entries-kept v (g .walk .kept);
+      allowed = entries-allowed v (g .walk .kept);
+      inside = omega (arith, inside, g .long);
+      fits = rw (← g .sized, tail-lent ((x - o) * S) buf, length-drop ((x - o) * S) buf) (omega (arith, runs));
+    }
 
-      pub scatter-more : (file' : List ℕ) (s' : Spot) → length file' ≡ length file → file' ≡ store (placeIn (v .etype .entries) (v .etype .widths) (v .etype .displacements) p) (nth (take (length buf - (x - first) * S) (drop ((x - first) * S) buf))) (sizeOf (v .etype .entries) (v .etype .widths)) file → s' ≡ nextSpot s (v .filetype .instances) (v .filetype .extent) → Scattering v buf first c file₀ file' (x + 1) s'
-      scatter-more file' s' m e n =
-          let t : x + 1 - first ≡ x - first + 1 = omega (arith, g .walk .begun) in
-          let lent : (k : ℕ) → nth (take (length buf - (x - first) * S) (drop ((x - first) * S) buf)) k ≡ nth buf ((x - first) * dataSize (paper v) + k) = λ k. ap (λ (z : List ℕ). nth z k) (tail-lent ((x - first) * S) buf) ∙ getD-drop ((x - first) * S) buf k 0 ∙ ap (λ (z : ℕ). nth buf ((x - first) * z + k)) S-is in
-          record {
-            walk = walk-more v first (first + c) x s (g .walk) l s' n;
-            long = m ∙ g .long;
-            done = rw (t, times-more (x - first) (dataSize (paper v)))
-                (store-run (fileByte (paper v) first) (nth buf) (placeIn (v .etype .entries) (v .etype .widths) (v .etype .displacements) p) (nth (take (length buf - (x - first) * S) (drop ((x - first) * S) buf))) ((x - first) * dataSize (paper v)) (dataSize (paper v)) file₀ file file' (g .done) (e ∙ ap (λ (z : ℕ). store (placeIn (v .etype .entries) (v .etype .widths) (v .etype .displacements) p) (nth (take (length buf - (x - first) * S) (drop ((x - first) * S) buf))) z file) (data-is v (h .ranged .kept)))
-                (λ k q. ap (λ (z : ℕ). placeIn (v .etype .entries) (v .etype .widths) (v .etype .displacements) z k) p-is ∙ place-in v (h .ranged .kept) x k ∙ ap (λ (z : ℕ). byteOf (paper v) z k) (sym at-x) ∙ sym (file-byte-run (paper v) first (x - first) k q))
-                (λ k q. lent k));
-          }
+    pub scatter-more : (file' : List ℕ) (s' : Spot) → length file' ≡ length file → file' ≡ store (placeIn (v .etype .entries) (v .etype .widths) (v .etype .displacements) p) (nth (take (length buf - (x - o) * S) (drop ((x - o) * S) buf))) (sizeOf (v .etype .entries) (v .etype .widths)) file → s' ≡ nextSpot s (v .filetype .instances) (v .filetype .extent) → Scattering v buf o c S file₀ file' (x + 1) s'
+    scatter-more file' s' m e n =
+        let t : x + 1 - o ≡ x - o + 1 = omega (arith, g .walk .begun) in
+        let lent : (k : ℕ) → nth (take (length buf - (x - o) * S) (drop ((x - o) * S) buf)) k ≡ nth buf ((x - o) * dataSize (paper v) + k) = λ k. ap (λ (z : List ℕ). nth z k) (tail-lent ((x - o) * S) buf) ∙ getD-drop ((x - o) * S) buf k 0 ∙ ap (λ (z : ℕ). nth buf ((x - o) * z + k)) S-is in
+        record {
+          walk = walk-more v o (o + c) x s (g .walk) l s' n;
+          sized = g .sized;
+          room = g .room;
+          held = g .held;
+          ends = g .ends;
+          long = m ∙ g .long;
+          done = rw (t, times-more (x - o) (dataSize (paper v)))
+              (store-run (fileByte (paper v) o) (nth buf) (placeIn (v .etype .entries) (v .etype .widths) (v .etype .displacements) p) (nth (take (length buf - (x - o) * S) (drop ((x - o) * S) buf))) ((x - o) * dataSize (paper v)) (dataSize (paper v)) file₀ file file' (g .done) (e ∙ ap (λ (z : ℕ). store (placeIn (v .etype .entries) (v .etype .widths) (v .etype .displacements) p) (nth (take (length buf - (x - o) * S) (drop ((x - o) * S) buf))) z file) (data-is v (g .walk .kept)))
+              (λ k q. ap (λ (z : ℕ). placeIn (v .etype .entries) (v .etype .widths) (v .etype .displacements) z k) p-is ∙ place-in v (g .walk .kept) x k ∙ ap (λ (z : ℕ). byteOf (paper v) z k) (sym at-x) ∙ sym (file-byte-run (paper v) o (x - o) k q))
+              (λ k q. lent k));
+        }
 
 pub ruleset scattering = (needs, scatter-none, move-offset, last-fits, scattering-none, scatter-all, walk-fits, walk-kept, walk-held, walk-step, from-fits, from-inside, scatter-lies, scatter-more, entries-kept)
 

@@ -24,10 +24,8 @@ pub fn write_end(v: View, o: Offset, count: u64) -> u64
     if count == 0 {
         return 0;
     }
-    let etype = v.etype;
-    let filetype = v.filetype;
-    let reach = rules::reach_of(etype);
-    let tail = laws::smaller(count, filetype.instances);
+    let reach = rules::reach_of(v.etype.entries, &v.etype.widths, &v.etype.displacements);
+    let tail = laws::smaller(count, v.filetype.instances);
     let skipped = count - tail;
     let from = view::natural(o.0) + skipped;
     let last = from + tail;
@@ -35,7 +33,7 @@ pub fn write_end(v: View, o: Offset, count: u64) -> u64
     let mut end = 0;
     let mut x = from;
     while x < last {
-        let place = locate::begin_at(filetype, spot);
+        let place = locate::begin_at(&v.filetype.origins, spot);
         let one = place.0 + reach;
         end = laws::larger(end, one);
         spot = locate::next_spot(spot, v.filetype.instances, v.filetype.extent);
@@ -53,17 +51,22 @@ pub fn scatter(v: View, file: &mut [u8], o: Offset, count: u64, buf: &[u8])
     if count == 0 {
         return;
     }
-    let etype = v.etype;
-    let filetype = v.filetype;
-    let packed = copier::data_size(etype);
+    let packed = copier::data_size(v.etype.entries, &v.etype.widths);
     let first = view::natural(o.0);
     let last = first + count;
     let mut spot = locate::spot_of(v, o);
     let mut x = first;
     while x < last {
-        let place = locate::begin_at(filetype, spot);
+        let place = locate::begin_at(&v.filetype.origins, spot);
         let from = ((x - first) * packed) as usize;
-        copier::copy_in(etype, &buf[from..], file, place);
+        copier::copy_in(
+            v.etype.entries,
+            &v.etype.widths,
+            &v.etype.displacements,
+            &buf[from..],
+            file,
+            place,
+        );
         spot = locate::next_spot(spot, v.filetype.instances, v.filetype.extent);
         x += 1;
     }

@@ -1,14 +1,14 @@
 -- `accept` goes along the chain: checks 2 to 6, the records, checks 7 to 10. Each answer follows from what the calls ensure. Assumes nothing.
-use borrow.Author.Needs.{needs}
+use native.Mathlib.Omega.{arith}
 use Rattle.accept.proofs.Answering.{refused-limits, etype-asks, naturals-ask, naturals-room, naturals-used, filetype-asks, shapes-ask, refused-rules, granted-rules}
 use Rattle.accept.proofs.accept.Statement.{statement}
 use Rattle.accept.proofs.accept.Tie as tie
 
 limits-refusal-requires : tie.Need-limits-refusal-requires
-limits-refusal-requires c κs = search needs
+limits-refusal-requires c κs = tt
 
 refused-requires : tie.Need-refused-requires
-refused-requires c κs = search needs
+refused-requires c κs = tt
 
 returns : tie.Need-returns
 returns c =
@@ -17,7 +17,7 @@ returns c =
     refused-limits (s .args .mode) _ _ _ _ _ _ _ _ (s .fits .displacement) (s .fits .ex) (s .fits .fx) _ (l .limits-refusal .ensures) _ (c .before .if1 .taken) (c .refused .ensures)
 
 natural-requires : tie.Need-natural-requires
-natural-requires c κs = search needs
+natural-requires c κs = tt
 
 etype-of-requires : tie.Need-etype-of-requires
 etype-of-requires c κs =
@@ -26,7 +26,7 @@ etype-of-requires c κs =
     etype-asks (s .args .mode) _ _ _ _ _ _ _ _ (s .fits .displacement) (s .fits .ex) (s .fits .fx) _ (l .limits-refusal .ensures) (c .before .if1 .left)
 
 slice-aggregate-copy-displacements : tie.Need-slice-aggregate-copy-displacements
-slice-aggregate-copy-displacements c = search needs
+slice-aggregate-copy-displacements c = omega arith
 
 copy-displacements-requires : tie.Need-copy-displacements-requires
 copy-displacements-requires c κs =
@@ -54,7 +54,7 @@ slice-aggregate-filetype-of c =
     naturals-used (s .args .mode) _ _ _ _ _ _ _ _ (s .fits .displacement) (s .fits .ex) (s .fits .fx) _ (l .limits-refusal .ensures) (e .if1 .left) _ (d .copy-displacements .ensures)
 
 natural-requires-2 : tie.Need-natural-requires-2
-natural-requires-2 c κs = search needs
+natural-requires-2 c κs = tt
 
 filetype-of-requires : tie.Need-filetype-of-requires
 filetype-of-requires c κs =
@@ -97,7 +97,7 @@ shapes-refusal-requires c κs =
     _ _ (f .before .natural2 .ensures) (f .filetype-of .ensures)
 
 refused-requires-2 : tie.Need-refused-requires-2
-refused-requires-2 c κs = search needs
+refused-requires-2 c κs = tt
 
 returns-2 : tie.Need-returns-2
 returns-2 c =
@@ -113,7 +113,7 @@ returns-2 c =
     _ _ (f .before .natural2 .ensures) (f .filetype-of .ensures) _ (h .shapes-refusal .ensures) _ (c .before .if2 .taken) (c .refused2 .ensures)
 
 natural-requires-3 : tie.Need-natural-requires-3
-natural-requires-3 c κs = search needs
+natural-requires-3 c κs = tt
 
 returns-3 : tie.Need-returns-3
 returns-3 c =

@@ -1,10 +1,13 @@
 -- `copy_displacements` stores each displacement at its index. Assumes nothing.
 use Prim.Native.Nat.{_-_, _≤_}
-use mathlib.Core.Path.{_≡_}
-use lib.ListN.{length}
+use mathlib.Core.Path.{_≡_, refl}
+use native.Mathlib.Omega.{arith}
+use borrow.Author.Needs.{set-long}
+use lib.ListN.{length, length-set}
+use Rattle.laws.proofs.Stores.{store-none, store-more, store-end}
 use Rattle.laws.specs.Lists.{front}
 use Rattle.accept.specs.Parts.{wholeAt}
-use Rattle.accept.proofs.Building.{copying}
+use Rattle.accept.proofs.Building.{whole-read}
 use Rattle.accept.proofs.copy_displacements.Statement.{statement}
 use Rattle.accept.proofs.copy_displacements.Tie as tie
 
@@ -15,37 +18,37 @@ abbrev μ-loop : tie.MeasureT-loop
 μ-loop ds out₀ i₀ out i = length ds - i
 
 loop-holds : tie.Need-loop-holds Inv-loop μ-loop
-loop-holds c = search copying
+loop-holds c = (omega arith, omega arith, refl, search store-none)
 
 mul-natural : tie.Need-mul-natural Inv-loop μ-loop
-mul-natural c = search copying
+mul-natural c = omega arith
 
 shared-slice-copy-out-natural : tie.Need-shared-slice-copy-out-natural Inv-loop μ-loop
-shared-slice-copy-out-natural c = search copying
+shared-slice-copy-out-natural c = omega arith
 
 natural-requires : tie.Need-natural-requires Inv-loop μ-loop
-natural-requires c κs = search copying
+natural-requires c κs = tt
 
 mul-out : tie.Need-mul-out Inv-loop μ-loop
-mul-out c = search copying
+mul-out c = omega arith
 
 slice-write-out : tie.Need-slice-write-out Inv-loop μ-loop
-slice-write-out c = search copying
+slice-write-out c = omega arith
 
 add-i : tie.Need-add-i Inv-loop μ-loop
-add-i c = search copying
+add-i c = omega arith
 
 loop-less : tie.Need-loop-less Inv-loop μ-loop
-loop-less c = search copying
+loop-less c = omega arith
 
 loop-again : tie.Need-loop-again Inv-loop μ-loop
-loop-again c = search copying
+loop-again c = (omega arith, simp length-set (omega arith), search set-long, search (store-more, whole-read))
 
 same-length : tie.Need-same-length Inv-loop μ-loop
-same-length c = search copying
+same-length c = omega arith
 
 returns : tie.Need-returns Inv-loop μ-loop
-returns c = search copying
+returns c = search store-end
 
 pub copy-displacements-spec : {M : Type 1} → statement M
 copy-displacements-spec =

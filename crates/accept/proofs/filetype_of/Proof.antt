@@ -1,10 +1,13 @@
 -- `filetype_of` stores the origin of each group. Assumes nothing.
 use Prim.Native.Nat.{_-_, _/_, _≤_, _<_}
-use mathlib.Core.Path.{_≡_}
+use mathlib.Core.Path.{_≡_, refl}
+use native.Mathlib.Omega.{arith}
+use borrow.Author.Needs.{needs, set-long, scaled-fits}
 use lib.ListN.{length}
 use Rattle.laws.specs.Lists.{front}
+use Rattle.laws.proofs.Stores.{store-more, store-none}
 use Rattle.accept.specs.Parts.{groupOrigin}
-use Rattle.accept.proofs.Building.{originating, filetype-made}
+use Rattle.accept.proofs.Building.{filetype-made, origin-is, group-in, group-fits}
 use Rattle.accept.proofs.filetype_of.Statement.{statement}
 use Rattle.accept.proofs.filetype_of.Tie as tie
 
@@ -15,40 +18,40 @@ abbrev μ-loop : tie.MeasureT-loop
 μ-loop fd extent n first k origins₀ g₀ origins g = k - g
 
 array-read-first : tie.Need-array-read-first Inv-loop μ-loop
-array-read-first c = search originating
+array-read-first c = omega arith
 
 div-k : tie.Need-div-k Inv-loop μ-loop
-div-k c = search originating
+div-k c = omega arith
 
 loop-holds : tie.Need-loop-holds Inv-loop μ-loop
-loop-holds c = search originating
+loop-holds c = (omega arith, omega arith, refl, omega arith, refl, search store-none)
 
 mul-begin : tie.Need-mul-begin Inv-loop μ-loop
-mul-begin c = search originating
+mul-begin c = search group-fits
 
 mul-less : tie.Need-mul-less Inv-loop μ-loop
-mul-less c = search originating
+mul-less c = search (scaled-fits, group-in)
 
 shared-slice-read-less : tie.Need-shared-slice-read-less Inv-loop μ-loop
-shared-slice-read-less c = search originating
+shared-slice-read-less c = search group-in
 
 less-requires : tie.Need-less-requires Inv-loop μ-loop
-less-requires c κs = search originating
+less-requires c κs = tt
 
 mul-origins : tie.Need-mul-origins Inv-loop μ-loop
-mul-origins c = search originating
+mul-origins c = omega arith
 
 array-write-origins : tie.Need-array-write-origins Inv-loop μ-loop
-array-write-origins c = search originating
+array-write-origins c = omega arith
 
 add-g : tie.Need-add-g Inv-loop μ-loop
-add-g c = search originating
+add-g c = omega arith
 
 loop-less : tie.Need-loop-less Inv-loop μ-loop
-loop-less c = search originating
+loop-less c = omega arith
 
 loop-again : tie.Need-loop-again Inv-loop μ-loop
-loop-again c = search originating
+loop-again c = (search needs, search needs, search needs, omega arith, search set-long, search (store-more, origin-is))
 
 returns : tie.Need-returns Inv-loop μ-loop
 returns c = search filetype-made

@@ -36,8 +36,9 @@ returns-3 c = search (shaping, check-no, unflag-false) depth 12
 
 holes-fit-requires : tie.Need-holes-fit-requires
 holes-fit-requires c κs =
-    let s = c .before .before .before .before .before .before .before .before .before .before .pre in
-    (instances-some _ _ _ _ s _ (c .before .is-built .ensures) (c .if3 .left), s .few, s .extent)
+    let b = c .before .before in
+    let s = b .before .before .before .before .before .before .before .before .before .before .pre in
+    (instances-some _ _ _ _ s _ (b .before .is-built .ensures) (b .if3 .left), s .few, s .extent)
 
 returns-4 : tie.Need-returns-4
 unfolding shapesRefusal
@@ -52,17 +53,17 @@ returns-5 c = search (shaping, either-unasked) depth 12
 
 shape-apart-requires : tie.Need-shape-apart-requires
 shape-apart-requires c κs =
-    let b = c .before .before .before .before in
-    let s = b .before .before .before .before .before .before .before .before .before .before .pre in
-    shape-ready _ _ _ _ s _ (b .before .is-built .ensures) (b .if3 .left)
+    let w = c .before .before .before .before .before in
+    let b = w .before .before .before .before .before .before in
+    shape-ready _ _ _ _ (b .before .before .before .before .before .before .before .before .before .before .pre) _ (b .before .is-built .ensures) (b .if3 .left)
 
 returns-6 : tie.Need-returns-6
 unfolding shapesRefusal
-returns-6 c = search (shaping, check-no, either-overlap) depth 12
+returns-6 c = search (shaping, check-no, either-overlap, c .before .before .before .before .before .before .before .before .before .before .before .before .before .before .before .before .before .before .before .before .before .before .before .good .1 .0) depth 12
 
 returns-7 : tie.Need-returns-7
 unfolding shapesRefusal
-returns-7 c = search (shaping, either-apart) depth 12
+returns-7 c = search (shaping, either-apart, c .before .before .before .before .before .before .before .before .before .before .before .before .before .before .before .before .before .before .before .before .before .before .before .good .1 .0) depth 12
 
 pub shapes-refusal-spec : {M : Type 1} → statement M
 shapes-refusal-spec =

@@ -3,15 +3,15 @@ use Prim.Native.Nat.{_-_}
 use lib.ListN.{length}
 use Rattle.laws.specs.Lists.{nth}
 use Rattle.copier.specs.Parts.{placeIn}
-use Rattle.copier.proofs.Copying.{Copying, packed-inside, in-inside, copying}
+use Rattle.copier.proofs.Copying.{Copying, copying-width, packed-inside, in-inside, copying}
 use Rattle.copier.proofs.copy_in.Statement.{statement}
 use Rattle.copier.proofs.copy_in.Tie as tie
 
 abbrev Inv-loop : tie.InvT-loop
-Inv-loop part file₀ n widths displacements begin taken₀ i₀ file taken i = Copying n widths displacements begin (length file₀) (length part) (placeIn n widths displacements begin) (nth part) file₀ file i taken
+Inv-loop entries widths displacements part file₀ n begin taken₀ i₀ file taken i = Copying n widths displacements begin (length file₀) (length part) (placeIn n widths displacements begin) (nth part) file₀ file i taken
 
 abbrev μ-loop : tie.MeasureT-loop
-μ-loop part file₀ n widths displacements begin taken₀ i₀ file taken i = n - i
+μ-loop entries widths displacements part file₀ n begin taken₀ i₀ file taken i = n - i
 
 loop-holds : tie.Need-loop-holds Inv-loop μ-loop
 loop-holds c = search copying
@@ -19,20 +19,20 @@ loop-holds c = search copying
 mul-width : tie.Need-mul-width Inv-loop μ-loop
 mul-width c = search copying
 
-array-read-width : tie.Need-array-read-width Inv-loop μ-loop
-array-read-width c = search copying
+element-copy-out-width : tie.Need-element-copy-out-width Inv-loop μ-loop
+element-copy-out-width c = search copying
 
 mul-to : tie.Need-mul-to Inv-loop μ-loop
 mul-to c = search copying
 
-array-read-to : tie.Need-array-read-to Inv-loop μ-loop
-array-read-to c = search copying
+element-copy-out-to : tie.Need-element-copy-out-to Inv-loop μ-loop
+element-copy-out-to c = search copying
 
 add-to : tie.Need-add-to Inv-loop μ-loop
 add-to c = search copying
 
 copy-run-requires : tie.Need-copy-run-requires Inv-loop μ-loop
-copy-run-requires c κs = (search packed-inside, search in-inside)
+copy-run-requires c κs = (record { source = search packed-inside; target = search in-inside }, search copying-width)
 
 add-taken : tie.Need-add-taken Inv-loop μ-loop
 add-taken c = search copying
@@ -60,9 +60,9 @@ copy-in-spec =
     μ-loop
     loop-holds
     mul-width
-    array-read-width
+    element-copy-out-width
     mul-to
-    array-read-to
+    element-copy-out-to
     add-to
     copy-run-requires
     add-taken

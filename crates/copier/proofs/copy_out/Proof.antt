@@ -2,15 +2,15 @@
 use Prim.Native.Nat.{_-_}
 use lib.ListN.{length}
 use Rattle.copier.specs.Parts.{byteIn}
-use Rattle.copier.proofs.Copying.{Copying, file-inside, out-inside, copying}
+use Rattle.copier.proofs.Copying.{Copying, copying-width, file-inside, out-inside, copying}
 use Rattle.copier.proofs.copy_out.Statement.{statement}
 use Rattle.copier.proofs.copy_out.Tie as tie
 
 abbrev Inv-loop : tie.InvT-loop
-Inv-loop file part₀ n widths displacements begin packed₀ i₀ part packed i = Copying n widths displacements begin (length file) (length part₀) (λ k. k) (byteIn n widths displacements file begin) part₀ part i packed
+Inv-loop entries widths displacements file part₀ n begin packed₀ i₀ part packed i = Copying n widths displacements begin (length file) (length part₀) (λ k. k) (byteIn n widths displacements file begin) part₀ part i packed
 
 abbrev μ-loop : tie.MeasureT-loop
-μ-loop file part₀ n widths displacements begin packed₀ i₀ part packed i = n - i
+μ-loop entries widths displacements file part₀ n begin packed₀ i₀ part packed i = n - i
 
 loop-holds : tie.Need-loop-holds Inv-loop μ-loop
 loop-holds c = search copying
@@ -18,20 +18,20 @@ loop-holds c = search copying
 mul-width : tie.Need-mul-width Inv-loop μ-loop
 mul-width c = search copying
 
-array-read-width : tie.Need-array-read-width Inv-loop μ-loop
-array-read-width c = search copying
+element-copy-out-width : tie.Need-element-copy-out-width Inv-loop μ-loop
+element-copy-out-width c = search copying
 
 mul-from : tie.Need-mul-from Inv-loop μ-loop
 mul-from c = search copying
 
-array-read-from : tie.Need-array-read-from Inv-loop μ-loop
-array-read-from c = search copying
+element-copy-out-from : tie.Need-element-copy-out-from Inv-loop μ-loop
+element-copy-out-from c = search copying
 
 add-from : tie.Need-add-from Inv-loop μ-loop
 add-from c = search copying
 
 copy-run-requires : tie.Need-copy-run-requires Inv-loop μ-loop
-copy-run-requires c κs = (search file-inside, search out-inside)
+copy-run-requires c κs = (record { source = search file-inside; target = search out-inside }, search copying-width)
 
 add-packed : tie.Need-add-packed Inv-loop μ-loop
 add-packed c = search copying
@@ -59,9 +59,9 @@ copy-out-spec =
     μ-loop
     loop-holds
     mul-width
-    array-read-width
+    element-copy-out-width
     mul-from
-    array-read-from
+    element-copy-out-from
     add-from
     copy-run-requires
     add-packed

@@ -1,62 +1,62 @@
--- `copy_run` stores each byte of the run in turn. Assumes nothing.
-use Prim.Native.Nat.{_-_, _≤_}
-use mathlib.Core.Path.{_≡_}
-use lib.ListN.{length}
-use Rattle.laws.specs.Lists.{store}
-use Rattle.copier.specs.Parts.{onward, byteFrom}
-use Rattle.copier.proofs.Copying.{running}
+-- `copy_run` copies by the width: each way stores as many bytes. Assumes nothing.
+use borrow.Author.Needs.{needs}
+use Rattle.copier.proofs.Copying.{run-of, run-first, run-one}
 use Rattle.copier.proofs.copy_run.Statement.{statement}
 use Rattle.copier.proofs.copy_run.Tie as tie
 
-abbrev Inv-loop : tie.InvT-loop
-Inv-loop source from target₀ to width k₀ target k = (k ≤ width) × (length target ≡ length target₀) × (target ≡ store (onward to) (byteFrom source from) k target₀)
+copy-4-requires : tie.Need-copy-4-requires
+copy-4-requires c κs = search needs
 
-abbrev μ-loop : tie.MeasureT-loop
-μ-loop source from target₀ to width k₀ target k = width - k
+copy-8-requires : tie.Need-copy-8-requires
+copy-8-requires c κs = search needs
 
-loop-holds : tie.Need-loop-holds Inv-loop μ-loop
-loop-holds c = search running
+copy-2-requires : tie.Need-copy-2-requires
+copy-2-requires c κs = search needs
 
-add-byte : tie.Need-add-byte Inv-loop μ-loop
-add-byte c = search running
+shared-slice-read-target : tie.Need-shared-slice-read-target
+shared-slice-read-target c = search run-first
 
-shared-slice-read-byte : tie.Need-shared-slice-read-byte Inv-loop μ-loop
-shared-slice-read-byte c = search running
+slice-write-target : tie.Need-slice-write-target
+slice-write-target c = search run-first
 
-add-target : tie.Need-add-target Inv-loop μ-loop
-add-target c = search running
+same-length : tie.Need-same-length
+same-length c = search needs
 
-slice-write-target : tie.Need-slice-write-target Inv-loop μ-loop
-slice-write-target c = search running
+returns : tie.Need-returns
+returns c = search run-of
 
-add-k : tie.Need-add-k Inv-loop μ-loop
-add-k c = search running
+same-length-2 : tie.Need-same-length-2
+same-length-2 c = search needs
 
-loop-less : tie.Need-loop-less Inv-loop μ-loop
-loop-less c = search running
+returns-2 : tie.Need-returns-2
+returns-2 c = search run-of
 
-loop-again : tie.Need-loop-again Inv-loop μ-loop
-loop-again c = search running
+same-length-3 : tie.Need-same-length-3
+same-length-3 c = search needs
 
-same-length : tie.Need-same-length Inv-loop μ-loop
-same-length c = search running
+returns-3 : tie.Need-returns-3
+returns-3 c = search run-of
 
-returns : tie.Need-returns Inv-loop μ-loop
-returns c = search running
+same-length-4 : tie.Need-same-length-4
+same-length-4 c = search needs
+
+returns-4 : tie.Need-returns-4
+returns-4 c = search run-one
 
 pub copy-run-spec : {M : Type 1} → statement M
 copy-run-spec =
     tie.close
     (tie.spec
-    Inv-loop
-    μ-loop
-    loop-holds
-    add-byte
-    shared-slice-read-byte
-    add-target
+    copy-4-requires
+    copy-8-requires
+    copy-2-requires
+    shared-slice-read-target
     slice-write-target
-    add-k
-    loop-less
-    loop-again
     same-length
-    returns)
+    returns
+    same-length-2
+    returns-2
+    same-length-3
+    returns-3
+    same-length-4
+    returns-4)

@@ -5,10 +5,10 @@ use Rattle.copier.proofs.data_size.Statement.{statement}
 use Rattle.copier.proofs.data_size.Tie as tie
 
 abbrev Inv-loop : tie.InvT-loop
-Inv-loop n widths size₀ i₀ size i = Summed widths n i size
+Inv-loop entries widths n size₀ i₀ size i = Summed widths n i size
 
 abbrev μ-loop : tie.MeasureT-loop
-μ-loop n widths size₀ i₀ size i = n - i
+μ-loop entries widths n size₀ i₀ size i = n - i
 
 loop-holds : tie.Need-loop-holds Inv-loop μ-loop
 loop-holds c = search summing
@@ -16,8 +16,8 @@ loop-holds c = search summing
 mul-size : tie.Need-mul-size Inv-loop μ-loop
 mul-size c = search summing
 
-array-read-size : tie.Need-array-read-size Inv-loop μ-loop
-array-read-size c = search summing
+element-copy-out-size : tie.Need-element-copy-out-size Inv-loop μ-loop
+element-copy-out-size c = search summing
 
 add-size : tie.Need-add-size Inv-loop μ-loop
 add-size c = search summing
@@ -42,7 +42,7 @@ data-size-spec =
     μ-loop
     loop-holds
     mul-size
-    array-read-size
+    element-copy-out-size
     add-size
     add-i
     loop-less

@@ -1,35 +1,35 @@
 -- `give_back` writes each list by one loop; what the loops store is the view's typemaps on paper. Assumes nothing.
-use Rattle.given.proofs.Typemaps.{typemaps}
-use borrow.Author.Needs.{needs}
+use native.Mathlib.Omega.{arith}
+use Rattle.given.proofs.Typemaps.{etype-room, filetype-room, etype-signed, filetype-signed, etype-widths-are, etype-displacements-are, filetype-widths-are, filetype-displacements-are}
 use Rattle.given.proofs.give_back.Statement.{statement}
 use Rattle.given.proofs.give_back.Tie as tie
 
 give-widths-requires : tie.Need-give-widths-requires
-give-widths-requires c κs = search typemaps
+give-widths-requires c κs = search etype-room
 
 give-displacements-requires : tie.Need-give-displacements-requires
-give-displacements-requires c κs = search typemaps
+give-displacements-requires c κs = search (etype-room, etype-signed)
 
 give-widths-requires-2 : tie.Need-give-widths-requires-2
-give-widths-requires-2 c κs = search typemaps
+give-widths-requires-2 c κs = search filetype-room
 
 give-displacements-requires-2 : tie.Need-give-displacements-requires-2
-give-displacements-requires-2 c κs = search typemaps
+give-displacements-requires-2 c κs = search (filetype-room, filetype-signed)
 
 same-length : tie.Need-same-length
-same-length c = search needs
+same-length c = omega arith
 
 same-length-2 : tie.Need-same-length-2
-same-length-2 c = search needs
+same-length-2 c = omega arith
 
 same-length-3 : tie.Need-same-length-3
-same-length-3 c = search needs
+same-length-3 c = omega arith
 
 same-length-4 : tie.Need-same-length-4
-same-length-4 c = search needs
+same-length-4 c = omega arith
 
 returns : tie.Need-returns
-returns c = search typemaps
+returns c = search (etype-widths-are, etype-displacements-are, filetype-widths-are, filetype-displacements-are)
 
 pub give-back-spec : {M : Type 1} → statement M
 give-back-spec =

@@ -1,10 +1,13 @@
 -- `give_displacements` stores at each index the displacement of the entry that it stands at, shifted by the origin of the group; they are remainder and quotient of the index. Assumes nothing.
 use Prim.Native.Nat.{_*_, _-_, _/_, _%_, _≤_}
-use mathlib.Core.Path.{_≡_}
+use mathlib.Core.Path.{_≡_, refl}
+use native.Mathlib.Omega.{arith}
+use borrow.Author.Needs.{set-long}
 use lib.ListN.{length}
+use Rattle.laws.proofs.Stores.{store-none, store-more, store-end}
 use Rattle.laws.specs.Lists.{front}
 use Rattle.given.specs.Parts.{groupDisplacement}
-use Rattle.given.proofs.Filling.{displacements}
+use Rattle.given.proofs.Filling.{entry-below, entry-held, entry-scaled, group-held, group-scaled, sum-small, first-group, first-entry, group-next, entry-next, displacement-is}
 use Rattle.given.proofs.give_displacements.Statement.{statement}
 use Rattle.given.proofs.give_displacements.Tie as tie
 
@@ -15,52 +18,52 @@ abbrev μ-loop : tie.MeasureT-loop
 μ-loop origins ds n k out₀ total group₀ entry₀ i₀ out group entry i = k * n - i
 
 mul-total : tie.Need-mul-total Inv-loop μ-loop
-mul-total c = search displacements
+mul-total c = omega arith
 
 loop-holds : tie.Need-loop-holds Inv-loop μ-loop
-loop-holds c = search displacements
+loop-holds c = (omega arith, search first-group, search first-entry, refl, search store-none)
 
 mul-shifted : tie.Need-mul-shifted Inv-loop μ-loop
-mul-shifted c = search displacements
+mul-shifted c = search group-scaled
 
 element-copy-out-shifted : tie.Need-element-copy-out-shifted Inv-loop μ-loop
-element-copy-out-shifted c = search displacements
+element-copy-out-shifted c = search group-held
 
 mul-shifted-2 : tie.Need-mul-shifted-2 Inv-loop μ-loop
-mul-shifted-2 c = search displacements
+mul-shifted-2 c = search entry-scaled
 
 element-copy-out-shifted-2 : tie.Need-element-copy-out-shifted-2 Inv-loop μ-loop
-element-copy-out-shifted-2 c = search displacements
+element-copy-out-shifted-2 c = search entry-held
 
 shifted-requires : tie.Need-shifted-requires Inv-loop μ-loop
-shifted-requires c κs = search displacements
+shifted-requires c κs = search sum-small
 
 mul-d : tie.Need-mul-d Inv-loop μ-loop
-mul-d c = search displacements
+mul-d c = omega arith
 
 slice-set-from-d : tie.Need-slice-set-from-d Inv-loop μ-loop
-slice-set-from-d c = search displacements
+slice-set-from-d c = omega arith
 
 next-group-requires : tie.Need-next-group-requires Inv-loop μ-loop
-next-group-requires c κs = search displacements
+next-group-requires c κs = (search entry-below, search group-held)
 
 next-entry-requires : tie.Need-next-entry-requires Inv-loop μ-loop
-next-entry-requires c κs = search displacements
+next-entry-requires c κs = search entry-below
 
 add-i : tie.Need-add-i Inv-loop μ-loop
-add-i c = search displacements
+add-i c = omega arith
 
 loop-less : tie.Need-loop-less Inv-loop μ-loop
-loop-less c = search displacements
+loop-less c = omega arith
 
 loop-again : tie.Need-loop-again Inv-loop μ-loop
-loop-again c = (search displacements, search displacements, search displacements, search displacements, search displacements)
+loop-again c = (omega arith, search group-next, search entry-next, search set-long, search (store-more, displacement-is))
 
 same-length : tie.Need-same-length Inv-loop μ-loop
-same-length c = search displacements
+same-length c = omega arith
 
 returns : tie.Need-returns Inv-loop μ-loop
-returns c = search displacements
+returns c = search store-end
 
 pub give-displacements-spec : {M : Type 1} → statement M
 give-displacements-spec =

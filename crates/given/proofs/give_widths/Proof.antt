@@ -1,10 +1,13 @@
 -- `give_widths` stores at each index the width of the entry that it stands at, which is the remainder of the index. Assumes nothing.
 use Prim.Native.Nat.{_*_, _-_, _%_, _≤_}
-use mathlib.Core.Path.{_≡_}
+use mathlib.Core.Path.{_≡_, refl}
+use native.Mathlib.Omega.{arith}
+use borrow.Author.Needs.{set-long}
 use lib.ListN.{length}
+use Rattle.laws.proofs.Stores.{store-none, store-more, store-end}
 use Rattle.laws.specs.Lists.{front}
 use Rattle.given.specs.Parts.{groupWidth}
-use Rattle.given.proofs.Filling.{widths}
+use Rattle.given.proofs.Filling.{entry-below, entry-held, entry-scaled, first-entry, entry-next, width-is}
 use Rattle.given.proofs.give_widths.Statement.{statement}
 use Rattle.given.proofs.give_widths.Tie as tie
 
@@ -15,40 +18,40 @@ abbrev μ-loop : tie.MeasureT-loop
 μ-loop ws n k out₀ total entry₀ i₀ out entry i = k * n - i
 
 mul-total : tie.Need-mul-total Inv-loop μ-loop
-mul-total c = search widths
+mul-total c = omega arith
 
 loop-holds : tie.Need-loop-holds Inv-loop μ-loop
-loop-holds c = search widths
+loop-holds c = (omega arith, search first-entry, refl, search store-none)
 
 mul-out : tie.Need-mul-out Inv-loop μ-loop
-mul-out c = search widths
+mul-out c = search entry-scaled
 
 element-copy-out-out : tie.Need-element-copy-out-out Inv-loop μ-loop
-element-copy-out-out c = search widths
+element-copy-out-out c = search entry-held
 
 mul-out-2 : tie.Need-mul-out-2 Inv-loop μ-loop
-mul-out-2 c = search widths
+mul-out-2 c = omega arith
 
 slice-write-out : tie.Need-slice-write-out Inv-loop μ-loop
-slice-write-out c = search widths
+slice-write-out c = omega arith
 
 next-entry-requires : tie.Need-next-entry-requires Inv-loop μ-loop
-next-entry-requires c κs = search widths
+next-entry-requires c κs = search entry-below
 
 add-i : tie.Need-add-i Inv-loop μ-loop
-add-i c = search widths
+add-i c = omega arith
 
 loop-less : tie.Need-loop-less Inv-loop μ-loop
-loop-less c = search widths
+loop-less c = omega arith
 
 loop-again : tie.Need-loop-again Inv-loop μ-loop
-loop-again c = search widths
+loop-again c = (omega arith, search entry-next, search set-long, search (store-more, width-is))
 
 same-length : tie.Need-same-length Inv-loop μ-loop
-same-length c = search widths
+same-length c = omega arith
 
 returns : tie.Need-returns Inv-loop μ-loop
-returns c = search widths
+returns c = search store-end
 
 pub give-widths-spec : {M : Type 1} → statement M
 give-widths-spec =

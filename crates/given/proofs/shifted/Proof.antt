@@ -1,5 +1,4 @@
 -- `shifted` casts a sum below 2^63, which the signed type reads as itself. Assumes nothing.
-use borrow.Author.Needs.{needs}
 use native.Mathlib.Omega.{arith}
 use mir.Facts.{toZ-pos}
 use mir.Syntax.{w64}
@@ -7,10 +6,10 @@ use Rattle.given.proofs.shifted.Statement.{statement}
 use Rattle.given.proofs.shifted.Tie as tie
 
 add-result : tie.Need-add-result
-add-result c = search needs
+add-result c = omega arith
 
 cast-result : tie.Need-cast-result
-cast-result c = search needs
+cast-result c = omega arith
 
 returns : tie.Need-returns
 returns c = toZ-pos w64 (omega arith)

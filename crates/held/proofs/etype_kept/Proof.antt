@@ -1,7 +1,7 @@
 -- `etype_kept` follows the definition along its tests. Assumes nothing.
 use Rattle.held.specs.Parts.{etypeHeld}
-use Rattle.held.proofs.Chains.{chain, ordered-prefix, upto-field, prefix-field}
-use Rattle.laws.proofs.Booleans.{tests}
+use Rattle.held.proofs.Chains.{chain, ordered-prefix, upto, prefix}
+use Rattle.laws.proofs.Booleans.{unflag-true, also-yes, within-yes}
 use borrow.Author.Needs.{needs}
 use Rattle.held.proofs.etype_kept.Statement.{statement}
 use Rattle.held.proofs.etype_kept.Tie as tie
@@ -29,18 +29,15 @@ returns-5 : tie.Need-returns-5
 unfolding etypeHeld
 returns-5 c = search chain depth 7
 
-array-share-prefix-displacements : tie.Need-array-share-prefix-displacements
-array-share-prefix-displacements c = search (tests, upto-field)
-
 slice-aggregate-never-decrease : tie.Need-slice-aggregate-never-decrease
-slice-aggregate-never-decrease c = search prefix-field
+slice-aggregate-never-decrease c = search prefix
 
 never-decrease-requires : tie.Need-never-decrease-requires
 never-decrease-requires c κs = search needs
 
 returns-6 : tie.Need-returns-6
 unfolding etypeHeld
-returns-6 c = search (chain, ordered-prefix, upto-field) depth 7
+returns-6 c = search (unflag-true, also-yes, within-yes, ordered-prefix, upto) depth 7
 
 pub etype-kept-spec : {M : Type 1} → statement M
 etype-kept-spec =
@@ -52,7 +49,6 @@ etype-kept-spec =
     returns-4
     entries-fit-requires
     returns-5
-    array-share-prefix-displacements
     slice-aggregate-never-decrease
     never-decrease-requires
     returns-6)

@@ -8,62 +8,62 @@ use Rattle.held.proofs.filetype_kept.Tie as tie
 
 returns : tie.Need-returns
 unfolding filetypeHeld lastBegins
-returns c = search (chain, reach-flag, reach-no-flag) depth 9
+returns c = search chain depth 9
 
 returns-2 : tie.Need-returns-2
 unfolding filetypeHeld lastBegins
-returns-2 c = search (chain, reach-flag, reach-no-flag) depth 9
+returns-2 c = search chain depth 9
 
 mul-entries : tie.Need-mul-entries
-mul-entries c = search (tests, etype-entries, etype-extent, etype-some, entries-fit, reach-small, last-small, first-small, origins-flag)
+mul-entries c = search (tests, entries-fit)
 
 returns-3 : tie.Need-returns-3
 unfolding filetypeHeld lastBegins
-returns-3 c = search (chain, reach-flag, reach-no-flag) depth 9
+returns-3 c = search chain depth 9
 
 returns-4 : tie.Need-returns-4
 unfolding filetypeHeld lastBegins
-returns-4 c = search (chain, reach-flag, reach-no-flag) depth 9
+returns-4 c = search chain depth 9
 
 returns-5 : tie.Need-returns-5
 unfolding filetypeHeld lastBegins
-returns-5 c = search (chain, reach-flag, reach-no-flag) depth 9
+returns-5 c = search chain depth 9
 
 reach-of-requires : tie.Need-reach-of-requires
-reach-of-requires c κs = search (tests, etype-entries, etype-extent, etype-some, entries-fit, reach-small, last-small, first-small, origins-flag)
+reach-of-requires c κs = search etype-entries
 
 instances-fit-requires : tie.Need-instances-fit-requires
-instances-fit-requires c κs = search (tests, etype-entries, etype-extent, etype-some, entries-fit, reach-small, last-small, first-small, origins-flag)
+instances-fit-requires c κs = search (tests, reach-small)
 
 returns-6 : tie.Need-returns-6
 unfolding filetypeHeld lastBegins
-returns-6 c = search (chain, reach-flag, reach-no-flag) depth 9
+returns-6 c = search (chain, reach-no-flag) depth 9
 
 sub-last : tie.Need-sub-last
-sub-last c = search (tests, etype-entries, etype-extent, etype-some, entries-fit, reach-small, last-small, first-small, origins-flag)
+sub-last c = search (tests, etype-some)
 
 mul-instances-step : tie.Need-mul-instances-step
 mul-instances-step c = search (needs, last-in)
 
-array-read-instances-step : tie.Need-array-read-instances-step
-array-read-instances-step c = search (needs, last-in)
+element-copy-out-instances-step : tie.Need-element-copy-out-instances-step
+element-copy-out-instances-step c = search (needs, last-in)
 
-array-read-instances-step-2 : tie.Need-array-read-instances-step-2
-array-read-instances-step-2 c = search needs
+element-copy-out-instances-step-2 : tie.Need-element-copy-out-instances-step-2
+element-copy-out-instances-step-2 c = search needs
 
 instances-step-requires : tie.Need-instances-step-requires
-instances-step-requires c κs = search (tests, etype-entries, etype-extent, etype-some, entries-fit, reach-small, last-small, first-small, origins-flag)
+instances-step-requires c κs = search (tests, last-small, first-small, origins-flag)
 
 returns-7 : tie.Need-returns-7
 unfolding filetypeHeld lastBegins
-returns-7 c = search (chain, reach-flag, reach-no-flag) depth 9
+returns-7 c = search (chain, reach-flag) depth 9
 
 holes-fit-requires : tie.Need-holes-fit-requires
-holes-fit-requires c κs = search (tests, etype-entries, etype-extent, etype-some, entries-fit, reach-small, last-small, first-small, origins-flag)
+holes-fit-requires c κs = search (tests, etype-extent)
 
 returns-8 : tie.Need-returns-8
 unfolding filetypeHeld lastBegins
-returns-8 c = search (chain, reach-flag, reach-no-flag) depth 9
+returns-8 c = search (chain, reach-flag) depth 9
 
 pub filetype-kept-spec : {M : Type 1} → statement M
 filetype-kept-spec =
@@ -80,8 +80,8 @@ filetype-kept-spec =
     returns-6
     sub-last
     mul-instances-step
-    array-read-instances-step
-    array-read-instances-step-2
+    element-copy-out-instances-step
+    element-copy-out-instances-step-2
     instances-step-requires
     returns-7
     holes-fit-requires

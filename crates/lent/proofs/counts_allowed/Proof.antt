@@ -1,8 +1,8 @@
 -- `counts_allowed` follows the definition along its tests. Assumes nothing.
+use native.Mathlib.Omega.{arith}
 use Rattle.view.specs.Limits.{etypeEntriesAllowed, filetypeEntriesAllowed}
 use Rattle.lent.specs.Parts.{countsAllowed}
 use Rattle.lent.proofs.Lending.{counting}
-use borrow.Author.Needs.{needs}
 use Rattle.lent.proofs.counts_allowed.Statement.{statement}
 use Rattle.lent.proofs.counts_allowed.Tie as tie
 
@@ -31,7 +31,7 @@ unfolding countsAllowed etypeEntriesAllowed filetypeEntriesAllowed
 returns-6 c = search counting depth 12
 
 mul-result : tie.Need-mul-result
-mul-result c = search needs
+mul-result c = omega arith
 
 returns-7 : tie.Need-returns-7
 unfolding countsAllowed etypeEntriesAllowed filetypeEntriesAllowed

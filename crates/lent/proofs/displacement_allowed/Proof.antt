@@ -1,17 +1,16 @@
 -- `displacement_allowed` follows the definition by the sign. Assumes nothing.
-use Rattle.lent.proofs.Lending.{signing}
-use borrow.Author.Needs.{needs}
+use Rattle.lent.proofs.Lending.{displacement-negative, displacement-is}
 use Rattle.lent.proofs.displacement_allowed.Statement.{statement}
 use Rattle.lent.proofs.displacement_allowed.Tie as tie
 
 returns : tie.Need-returns
-returns c = search signing
+returns c = search displacement-negative
 
 natural-requires : tie.Need-natural-requires
-natural-requires c κs = search needs
+natural-requires c κs = tt
 
 returns-2 : tie.Need-returns-2
-returns-2 c = search signing
+returns-2 c = search displacement-is
 
 pub displacement-allowed-spec : {M : Type 1} → statement M
 displacement-allowed-spec = tie.close (tie.spec returns natural-requires returns-2)

@@ -1,10 +1,11 @@
 -- `entries_allowed` passes the entries in order and leaves at the first that is not allowed. Assumes nothing.
 use Prim.Native.Nat.{_-_}
 use mathlib.Core.Path.{_≡_}
+use native.Mathlib.Omega.{arith}
 use lib.ListN.{length}
-use Rattle.laws.proofs.Searching.{Passed}
+use Rattle.laws.proofs.Searching.{Passed, passed-none, passed-fails, passed-more, passed-holds}
 use Rattle.lent.specs.Parts.{typeLent}
-use Rattle.lent.proofs.Lending.{lending}
+use Rattle.lent.proofs.Lending.{lent-no, lent-yes}
 use Rattle.lent.proofs.entries_allowed.Statement.{statement}
 use Rattle.lent.proofs.entries_allowed.Tie as tie
 
@@ -15,37 +16,37 @@ abbrev μ-loop : tie.MeasureT-loop
 μ-loop ws ds i₀ i = length ws - i
 
 loop-holds : tie.Need-loop-holds Inv-loop μ-loop
-loop-holds c = search lending
+loop-holds c = search passed-none
 
 mul-entry-allowed : tie.Need-mul-entry-allowed Inv-loop μ-loop
-mul-entry-allowed c = search lending
+mul-entry-allowed c = omega arith
 
 shared-slice-read-entry-allowed : tie.Need-shared-slice-read-entry-allowed Inv-loop μ-loop
-shared-slice-read-entry-allowed c = search lending
+shared-slice-read-entry-allowed c = omega arith
 
 mul-entry-allowed-2 : tie.Need-mul-entry-allowed-2 Inv-loop μ-loop
-mul-entry-allowed-2 c = search lending
+mul-entry-allowed-2 c = omega arith
 
 shared-slice-copy-out-entry-allowed : tie.Need-shared-slice-copy-out-entry-allowed Inv-loop μ-loop
-shared-slice-copy-out-entry-allowed c = search lending
+shared-slice-copy-out-entry-allowed c = omega arith
 
 entry-allowed-requires : tie.Need-entry-allowed-requires Inv-loop μ-loop
-entry-allowed-requires c κs = search lending
+entry-allowed-requires c κs = tt
 
 returns : tie.Need-returns Inv-loop μ-loop
-returns c = search lending
+returns c = search (passed-fails, lent-no)
 
 add-i : tie.Need-add-i Inv-loop μ-loop
-add-i c = search lending
+add-i c = omega arith
 
 loop-less : tie.Need-loop-less Inv-loop μ-loop
-loop-less c = search lending
+loop-less c = omega arith
 
 loop-again : tie.Need-loop-again Inv-loop μ-loop
-loop-again c = search lending
+loop-again c = search (passed-more, lent-yes)
 
 returns-2 : tie.Need-returns-2 Inv-loop μ-loop
-returns-2 c = search lending
+returns-2 c = search passed-holds
 
 pub entries-allowed-spec : {M : Type 1} → statement M
 entries-allowed-spec =

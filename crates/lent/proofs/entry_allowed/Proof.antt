@@ -1,20 +1,19 @@
 -- `entry_allowed` follows the definition by the sign. Assumes nothing.
-use Rattle.lent.proofs.Lending.{signing}
-use borrow.Author.Needs.{needs}
+use Rattle.lent.proofs.Lending.{entry-negative, entry-is}
 use Rattle.lent.proofs.entry_allowed.Statement.{statement}
 use Rattle.lent.proofs.entry_allowed.Tie as tie
 
 returns : tie.Need-returns
-returns c = search signing
+returns c = search entry-negative
 
 natural-requires : tie.Need-natural-requires
-natural-requires c κs = search needs
+natural-requires c κs = tt
 
 entry-fits-requires : tie.Need-entry-fits-requires
-entry-fits-requires c κs = search needs
+entry-fits-requires c κs = tt
 
 returns-2 : tie.Need-returns-2
-returns-2 c = search signing
+returns-2 c = search entry-is
 
 pub entry-allowed-spec : {M : Type 1} → statement M
 entry-allowed-spec = tie.close (tie.spec returns natural-requires entry-fits-requires returns-2)

@@ -1,17 +1,16 @@
 -- `extent_allowed` follows the definition; a negative extent is taken for 0. Assumes nothing.
-use Rattle.lent.proofs.Lending.{signing}
-use borrow.Author.Needs.{needs}
+use Rattle.lent.proofs.Lending.{extent-low, extent-is}
 use Rattle.lent.proofs.extent_allowed.Statement.{statement}
 use Rattle.lent.proofs.extent_allowed.Tie as tie
 
 natural-requires : tie.Need-natural-requires
-natural-requires c κs = search needs
+natural-requires c κs = tt
 
 returns : tie.Need-returns
-returns c = search signing
+returns c = search extent-low
 
 returns-2 : tie.Need-returns-2
-returns-2 c = search signing
+returns-2 c = search extent-is
 
 pub extent-allowed-spec : {M : Type 1} → statement M
 extent-allowed-spec = tie.close (tie.spec natural-requires returns returns-2)

@@ -1,11 +1,12 @@
 -- `is_native` compares the length, then byte by byte. Assumes nothing.
 use Prim.Native.Nat.{_-_}
 use mathlib.Core.Path.{_≡_}
+use native.Mathlib.Omega.{arith}
 use lib.ListN.{length}
-use Rattle.laws.proofs.Searching.{Passed}
+use Rattle.laws.proofs.Searching.{Passed, passed-none, passed-more}
 use Rattle.view.specs.Rules.{nativeName}
 use Rattle.lent.specs.Parts.{nativeAt}
-use Rattle.lent.proofs.Lending.{representing}
+use Rattle.lent.proofs.Lending.{native-short, native-fails, native-no, native-yes, native-holds}
 use Rattle.lent.proofs.is_native.Statement.{statement}
 use Rattle.lent.proofs.is_native.Tie as tie
 
@@ -16,33 +17,33 @@ abbrev μ-loop : tie.MeasureT-loop
 μ-loop representation i₀ i = 6 - i
 
 returns : tie.Need-returns Inv-loop μ-loop
-returns c = search representing
+returns c = search native-short
 
 loop-holds : tie.Need-loop-holds Inv-loop μ-loop
-loop-holds c = search representing
+loop-holds c = search passed-none
 
 shared-slice-read-if2 : tie.Need-shared-slice-read-if2 Inv-loop μ-loop
-shared-slice-read-if2 c = search representing
+shared-slice-read-if2 c = omega arith
 
 array-read-if2 : tie.Need-array-read-if2 Inv-loop μ-loop
-array-read-if2 c = search representing
+array-read-if2 c = omega arith
 
 returns-2 : tie.Need-returns-2 Inv-loop μ-loop
 unfolding nativeName
-returns-2 c = search representing
+returns-2 c = search (native-fails, native-no)
 
 add-i : tie.Need-add-i Inv-loop μ-loop
-add-i c = search representing
+add-i c = omega arith
 
 loop-less : tie.Need-loop-less Inv-loop μ-loop
-loop-less c = search representing
+loop-less c = omega arith
 
 loop-again : tie.Need-loop-again Inv-loop μ-loop
 unfolding nativeName
-loop-again c = search representing
+loop-again c = search (passed-more, native-yes)
 
 returns-3 : tie.Need-returns-3 Inv-loop μ-loop
-returns-3 c = search representing
+returns-3 c = search native-holds
 
 pub is-native-spec : {M : Type 1} → statement M
 is-native-spec =

@@ -1,41 +1,42 @@
 -- `owner_in_entry` answers along its tests what the definition says. Assumes nothing.
-use Rattle.reverse.proofs.Trying.{trying}
+use native.Mathlib.Omega.{arith}
 use borrow.Author.Needs.{needs}
+use Rattle.reverse.proofs.Trying.{entry-after, entry-beside, offset-past, tile-past, before-fits, offset-fits, entry-hit}
 use Rattle.reverse.proofs.owner_in_entry.Statement.{statement}
 use Rattle.reverse.proofs.owner_in_entry.Tie as tie
 
 returns : tie.Need-returns
-returns c = search trying
+returns c = search entry-after
 
 rem-rest : tie.Need-rem-rest
-rem-rest c = search needs
+rem-rest c = omega arith
 
 returns-2 : tie.Need-returns-2
-returns-2 c = search trying
+returns-2 c = search entry-beside
 
 div-tile : tie.Need-div-tile
-div-tile c = search needs
+div-tile c = omega arith
 
 returns-3 : tie.Need-returns-3
-returns-3 c = search trying
+returns-3 c = search tile-past
 
 mul-before : tie.Need-mul-before
-mul-before c = search trying
+mul-before c = search (needs, before-fits)
 
 add-offset : tie.Need-add-offset
-add-offset c = search trying
+add-offset c = search (needs, offset-fits)
 
 returns-4 : tie.Need-returns-4
-returns-4 c = search trying
+returns-4 c = search offset-past
 
 add-index : tie.Need-add-index
-add-index c = search needs
+add-index c = omega arith
 
 to-offset-requires : tie.Need-to-offset-requires
-to-offset-requires c κs = search needs
+to-offset-requires c κs = omega arith
 
 returns-5 : tie.Need-returns-5
-returns-5 c = search trying
+returns-5 c = search entry-hit
 
 pub owner-in-entry-spec : {M : Type 1} → statement M
 owner-in-entry-spec =

@@ -1,51 +1,53 @@
 -- `owner_of` tries instance after instance. The invariant: no instance before g has a pair of the byte. Assumes nothing.
 use Prim.Native.Nat.{_-_}
-use Rattle.reverse.proofs.Firsts.{Missed}
-use Rattle.reverse.proofs.Whole.{ownerFrom, looking}
+use borrow.Author.Needs.{needs}
+use native.Mathlib.Omega.{arith}
+use Rattle.reverse.proofs.Firsts.{Missed, missed-none}
+use Rattle.reverse.proofs.Whole.{ownerFrom, lookup-more, lookup-stop, origin-held, origin-scaled, begin-fits, instance-kept, lookup-end}
 use Rattle.reverse.proofs.owner_of.Statement.{statement}
 use Rattle.reverse.proofs.owner_of.Tie as tie
 
 abbrev Inv-loop : tie.InvT-loop
-Inv-loop v b etype filetype g₀ g = Missed (ownerFrom v (b .0)) g (filetype .instances)
+Inv-loop b v filetype g₀ g = Missed (ownerFrom v (b .0)) g (filetype .instances)
 
 abbrev μ-loop : tie.MeasureT-loop
-μ-loop v b etype filetype g₀ g = filetype .instances - g
+μ-loop b v filetype g₀ g = filetype .instances - g
 
 loop-holds : tie.Need-loop-holds Inv-loop μ-loop
-loop-holds c = search looking
+loop-holds c = search missed-none
 
 mul-begin : tie.Need-mul-begin Inv-loop μ-loop
-mul-begin c = search looking
+mul-begin c = search origin-scaled
 
 element-copy-out-begin : tie.Need-element-copy-out-begin Inv-loop μ-loop
-element-copy-out-begin c = search looking
+element-copy-out-begin c = search origin-held
 
 add-begin : tie.Need-add-begin Inv-loop μ-loop
-add-begin c = search looking
+add-begin c = search begin-fits
 
 owner-in-instance-requires : tie.Need-owner-in-instance-requires Inv-loop μ-loop
-owner-in-instance-requires c κs = search looking
+owner-in-instance-requires c κs = search instance-kept
 
 enum-told : tie.Need-enum-told Inv-loop μ-loop
-enum-told c = search looking
+enum-told c = omega arith
 
 returns : tie.Need-returns Inv-loop μ-loop
-returns c = search looking
+returns c = search lookup-stop
 
 enum-told-2 : tie.Need-enum-told-2 Inv-loop μ-loop
-enum-told-2 c = search looking
+enum-told-2 c = omega arith
 
 add-g : tie.Need-add-g Inv-loop μ-loop
-add-g c = search looking
+add-g c = omega arith
 
 loop-less : tie.Need-loop-less Inv-loop μ-loop
-loop-less c = search looking
+loop-less c = omega arith
 
 loop-again : tie.Need-loop-again Inv-loop μ-loop
-loop-again c = search looking
+loop-again c = lookup-more _ (search needs) _ _ (c .before .before .before .before .before .before .before .before .loop .inv) (c .before .before .before .before .before .before .before .loop-test .taken) _ (c .before .before .owner-in-instance .ensures) (search needs)
 
 returns-2 : tie.Need-returns-2 Inv-loop μ-loop
-returns-2 c = search looking
+returns-2 c = search lookup-end
 
 pub owner-of-spec : {M : Type 1} → statement M
 owner-of-spec =

@@ -1,49 +1,50 @@
 -- `entries_fit` passes the entries in order and leaves at the first that breaks the rule. Assumes nothing.
 use Prim.Native.Nat.{_-_}
-use Rattle.laws.proofs.Searching.{Passed}
+use Rattle.laws.proofs.Searching.{Passed, passed-fails, passed-holds, passed-more, passed-none}
 use Rattle.rules.specs.Parts.{entryHeld}
-use Rattle.rules.proofs.Fitting.{entering}
+use Rattle.rules.proofs.Fitting.{entry-false, entry-true}
+use borrow.Author.Needs.{needs}
 use Rattle.rules.proofs.entries_fit.Statement.{statement}
 use Rattle.rules.proofs.entries_fit.Tie as tie
 
 abbrev Inv-loop : tie.InvT-loop
-Inv-loop n widths displacements i₀ i = Passed (entryHeld widths displacements) i n
+Inv-loop entries widths displacements n i₀ i = Passed (entryHeld widths displacements) i n
 
 abbrev μ-loop : tie.MeasureT-loop
-μ-loop n widths displacements i₀ i = n - i
+μ-loop entries widths displacements n i₀ i = n - i
 
 loop-holds : tie.Need-loop-holds Inv-loop μ-loop
-loop-holds c = search entering
+loop-holds c = search (needs, passed-none)
 
 mul-entry-fits : tie.Need-mul-entry-fits Inv-loop μ-loop
-mul-entry-fits c = search entering
+mul-entry-fits c = search needs
 
-array-read-entry-fits : tie.Need-array-read-entry-fits Inv-loop μ-loop
-array-read-entry-fits c = search entering
+element-copy-out-entry-fits : tie.Need-element-copy-out-entry-fits Inv-loop μ-loop
+element-copy-out-entry-fits c = search needs
 
 mul-entry-fits-2 : tie.Need-mul-entry-fits-2 Inv-loop μ-loop
-mul-entry-fits-2 c = search entering
+mul-entry-fits-2 c = search needs
 
-array-read-entry-fits-2 : tie.Need-array-read-entry-fits-2 Inv-loop μ-loop
-array-read-entry-fits-2 c = search entering
+element-copy-out-entry-fits-2 : tie.Need-element-copy-out-entry-fits-2 Inv-loop μ-loop
+element-copy-out-entry-fits-2 c = search needs
 
 entry-fits-requires : tie.Need-entry-fits-requires Inv-loop μ-loop
-entry-fits-requires c κs = search entering
+entry-fits-requires c κs = search needs
 
 returns : tie.Need-returns Inv-loop μ-loop
-returns c = search entering
+returns c = search (passed-fails, entry-false)
 
 add-i : tie.Need-add-i Inv-loop μ-loop
-add-i c = search entering
+add-i c = search needs
 
 loop-less : tie.Need-loop-less Inv-loop μ-loop
-loop-less c = search entering
+loop-less c = search needs
 
 loop-again : tie.Need-loop-again Inv-loop μ-loop
-loop-again c = search entering
+loop-again c = search (passed-more, entry-true)
 
 returns-2 : tie.Need-returns-2 Inv-loop μ-loop
-returns-2 c = search entering
+returns-2 c = search passed-holds
 
 pub entries-fit-spec : {M : Type 1} → statement M
 entries-fit-spec =
@@ -53,9 +54,9 @@ entries-fit-spec =
     μ-loop
     loop-holds
     mul-entry-fits
-    array-read-entry-fits
+    element-copy-out-entry-fits
     mul-entry-fits-2
-    array-read-entry-fits-2
+    element-copy-out-entry-fits-2
     entry-fits-requires
     returns
     add-i

@@ -11,17 +11,17 @@ width-allowed-requires c κs = search needs
 
 returns : tie.Need-returns
 unfolding entryFits
-returns c = search (checks, entry-past, entry-end-fits) depth 6
+returns c = search checks depth 6
 
 returns-2 : tie.Need-returns-2
-returns-2 c = search (checks, entry-past, entry-end-fits) depth 6
+returns-2 c = search entry-past
 
 add-result : tie.Need-add-result
-add-result c = search (checks, entry-past, entry-end-fits) depth 6
+add-result c = search (checks, entry-end-fits) depth 6
 
 returns-3 : tie.Need-returns-3
 unfolding entryFits
-returns-3 c = search (checks, entry-past, entry-end-fits) depth 6
+returns-3 c = search checks depth 6
 
 pub entry-fits-spec : {M : Type 1} → statement M
 entry-fits-spec =

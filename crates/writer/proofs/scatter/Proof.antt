@@ -1,20 +1,22 @@
 -- `scatter` stores each etype's data at its place; the etype lies in the file, as the write's end does. Assumes nothing.
 use Prim.Native.Nat.{_-_}
+use Rattle.copier.proofs.Copying.{widths-kept}
+use Rattle.mover.proofs.Etypes.{entries-kept}
 use Rattle.writer.proofs.Scattering.{Scattering, from-fits, from-inside, scatter-lies, scatter-more, scattering}
 use Rattle.writer.proofs.scatter.Statement.{statement}
 use Rattle.writer.proofs.scatter.Tie as tie
 
 abbrev Inv-loop : tie.InvT-loop
-Inv-loop v file₀ count buf etype filetype packed first last spot₀ x₀ file spot x = Scattering v buf first count file₀ file x spot
+Inv-loop file₀ count buf v packed first last spot₀ x₀ file spot x = Scattering v buf first count packed file₀ file x spot
 
 abbrev μ-loop : tie.MeasureT-loop
-μ-loop v file₀ count buf etype filetype packed first last spot₀ x₀ file spot x = last - x
+μ-loop file₀ count buf v packed first last spot₀ x₀ file spot x = last - x
 
 returns : tie.Need-returns Inv-loop μ-loop
 returns c = search scattering
 
 data-size-requires : tie.Need-data-size-requires Inv-loop μ-loop
-data-size-requires c κs = search scattering
+data-size-requires c κs = search (widths-kept, entries-kept)
 
 natural-requires : tie.Need-natural-requires Inv-loop μ-loop
 natural-requires c κs = search scattering

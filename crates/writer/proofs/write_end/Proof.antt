@@ -1,14 +1,14 @@
 -- `write_end` takes the greatest end of the last offsets, one for each instance at most; together they end where the write does. Assumes nothing.
 use Prim.Native.Nat.{_-_}
-use Rattle.writer.proofs.Ending.{Ending, ending}
+use Rattle.writer.proofs.Ending.{Ending, ending-fits, ending-more, ending}
 use Rattle.writer.proofs.write_end.Statement.{statement}
 use Rattle.writer.proofs.write_end.Tie as tie
 
 abbrev Inv-loop : tie.InvT-loop
-Inv-loop v count filetype reach tail skipped from last spot₀ end₀ x₀ spot end x = Ending v from last x spot end
+Inv-loop count v reach tail skipped from last spot₀ end₀ x₀ spot end x = Ending v from last reach x spot end
 
 abbrev μ-loop : tie.MeasureT-loop
-μ-loop v count filetype reach tail skipped from last spot₀ end₀ x₀ spot end x = last - x
+μ-loop count v reach tail skipped from last spot₀ end₀ x₀ spot end x = last - x
 
 returns : tie.Need-returns Inv-loop μ-loop
 returns c = search ending
@@ -44,7 +44,7 @@ begin-at-requires : tie.Need-begin-at-requires Inv-loop μ-loop
 begin-at-requires c κs = search ending
 
 add-one : tie.Need-add-one Inv-loop μ-loop
-add-one c = search ending
+add-one c = ending-fits _ _ _ _ _ _ _ (c .before .before .before .before .before .loop .inv) (c .before .before .before .before .loop-test .taken) _ (c .before .begin-at .ensures)
 
 larger-requires : tie.Need-larger-requires Inv-loop μ-loop
 larger-requires c κs = search ending
@@ -59,7 +59,7 @@ loop-less : tie.Need-loop-less Inv-loop μ-loop
 loop-less c = search ending
 
 loop-again : tie.Need-loop-again Inv-loop μ-loop
-loop-again c = search ending
+loop-again c = search ending-more
 
 returns-2 : tie.Need-returns-2 Inv-loop μ-loop
 returns-2 c = search ending

@@ -1,11 +1,11 @@
--- `keeps` follows the tests on the record, which make up the rules on the view that it stands for. Assumes nothing.
+-- `parts_keep` follows the tests on the parts, which make up the rules on the view that the parts stand for. Assumes nothing.
 use borrow.Author.Needs.{needs}
 use Rattle.laws.proofs.Booleans.{tests}
 use Rattle.held.specs.Parts.{viewHeld}
 use Rattle.held.proofs.Chains.{chain, shape-flags}
 use Rattle.held.proofs.Whole.{keeps-by, no-writing, writing}
-use Rattle.held.proofs.keeps.Statement.{statement}
-use Rattle.held.proofs.keeps.Tie as tie
+use Rattle.held.proofs.parts_keep.Statement.{statement}
+use Rattle.held.proofs.parts_keep.Tie as tie
 
 returns : tie.Need-returns
 unfolding viewHeld
@@ -35,15 +35,15 @@ returns-4 c = keeps-by _ _ _ (search (chain, no-writing) depth 6)
 shape-apart-requires : tie.Need-shape-apart-requires
 shape-apart-requires c κs =
     let f = c .before .before in
-    let e = f .before .before .before in
-    shape-flags _ _ _ _ (e .before .etype-kept .ensures) (e .if2 .left) (f .before .filetype-kept .ensures) (f .if3 .left)
+    let e = f .before .before in
+    shape-flags _ _ _ _ _ _ _ _ _ (e .before .etype-kept .ensures) (e .if2 .left) (f .before .filetype-kept .ensures) (f .if3 .left)
 
 returns-5 : tie.Need-returns-5
 unfolding viewHeld
 returns-5 c = keeps-by _ _ _ (search (chain, writing) depth 6)
 
-pub keeps-spec : {M : Type 1} → statement M
-keeps-spec =
+pub parts-keep-spec : {M : Type 1} → statement M
+parts-keep-spec =
     tie.close
     (tie.spec
     returns

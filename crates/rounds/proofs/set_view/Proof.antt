@@ -1,0 +1,17 @@
+-- `set_view` opens with mode 3 and sets the view that the body describes. Assumes nothing.
+use borrow.Author.Needs.{needs}
+use Rattle.rounds.proofs.Making.{view-set-is}
+use Rattle.rounds.proofs.set_view.Statement.{statement}
+use Rattle.rounds.proofs.set_view.Tie as tie
+
+open-requires : tie.Need-open-requires
+open-requires c κs = search needs
+
+set-line-requires : tie.Need-set-line-requires
+set-line-requires c κs = search needs
+
+returns : tie.Need-returns
+returns c = search view-set-is
+
+pub set-view-spec : {M : Type 1} → statement M
+set-view-spec = tie.close (tie.spec open-requires set-line-requires returns)
