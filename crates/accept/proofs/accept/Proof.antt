@@ -4,29 +4,17 @@ use Rattle.accept.proofs.Answering.{refused-limits, etype-asks, natural
 use Rattle.accept.proofs.accept.Statement.{statement}
 use Rattle.accept.proofs.accept.Tie as tie
 
-limits-refusal-requires : tie.Need-limits-refusal-requires
-limits-refusal-requires c κs = tt
-
-refused-requires : tie.Need-refused-requires
-refused-requires c κs = tt
-
 returns : tie.Need-returns
 returns c =
     let l = c .before .before in
     let s = l .before .before .before .before in
     refused-limits (s .args .mode) _ _ _ _ _ _ _ _ (s .fits .displacement) (s .fits .ex) (s .fits .fx) _ (l .limits-refusal .ensures) _ (c .before .if1 .taken) (c .refused .ensures)
 
-natural-requires : tie.Need-natural-requires
-natural-requires c κs = tt
-
 etype-of-requires : tie.Need-etype-of-requires
 etype-of-requires c κs =
     let l = c .before .before in
     let s = l .before .before .before .before in
     etype-asks (s .args .mode) _ _ _ _ _ _ _ _ (s .fits .displacement) (s .fits .ex) (s .fits .fx) _ (l .limits-refusal .ensures) (c .before .if1 .left)
-
-slice-aggregate-copy-displacements : tie.Need-slice-aggregate-copy-displacements
-slice-aggregate-copy-displacements c = omega arith
 
 copy-displacements-requires : tie.Need-copy-displacements-requires
 copy-displacements-requires c κs =
@@ -52,9 +40,6 @@ slice-aggregate-filetype-of c =
     let l = e .before in
     let s = l .before .before .before .before in
     naturals-used (s .args .mode) _ _ _ _ _ _ _ _ (s .fits .displacement) (s .fits .ex) (s .fits .fx) _ (l .limits-refusal .ensures) (e .if1 .left) _ (d .copy-displacements .ensures)
-
-natural-requires-2 : tie.Need-natural-requires-2
-natural-requires-2 c κs = tt
 
 filetype-of-requires : tie.Need-filetype-of-requires
 filetype-of-requires c κs =
@@ -96,9 +81,6 @@ shapes-refusal-requires c κs =
     _ _ (t .before .natural .ensures) (t .etype-of .ensures) _ (d .copy-displacements .ensures)
     _ _ (f .before .natural2 .ensures) (f .filetype-of .ensures)
 
-refused-requires-2 : tie.Need-refused-requires-2
-refused-requires-2 c κs = tt
-
 returns-2 : tie.Need-returns-2
 returns-2 c =
     let h = c .before .before in
@@ -111,9 +93,6 @@ returns-2 c =
     refused-rules (s .args .mode) _ _ _ _ _ _ _ _ (s .fits .displacement) (s .fits .ex) (s .fits .fx) _ (l .limits-refusal .ensures) (e .if1 .left)
     _ _ (t .before .natural .ensures) (t .etype-of .ensures) _ (d .copy-displacements .ensures)
     _ _ (f .before .natural2 .ensures) (f .filetype-of .ensures) _ (h .shapes-refusal .ensures) _ (c .before .if2 .taken) (c .refused2 .ensures)
-
-natural-requires-3 : tie.Need-natural-requires-3
-natural-requires-3 c κs = tt
 
 returns-3 : tie.Need-returns-3
 returns-3 c =
@@ -132,21 +111,21 @@ pub accept-spec : {M : Type 1} → statement M
 accept-spec =
     tie.close
     (tie.spec
-    limits-refusal-requires
-    refused-requires
+    (λ c κs. tt)
+    (λ c κs. tt)
     returns
-    natural-requires
+    (λ c κs. tt)
     etype-of-requires
-    slice-aggregate-copy-displacements
+    (λ c. omega arith)
     copy-displacements-requires
     array-share-prefix-naturals
     slice-aggregate-filetype-of
-    natural-requires-2
+    (λ c κs. tt)
     filetype-of-requires
     array-share-prefix-naturals-2
     slice-aggregate-shapes-refusal
     shapes-refusal-requires
-    refused-requires-2
+    (λ c κs. tt)
     returns-2
-    natural-requires-3
+    (λ c κs. tt)
     returns-3)

@@ -20,32 +20,8 @@ abbrev μ-loop : tie.MeasureT-loop
 loop-holds : tie.Need-loop-holds Inv-loop μ-loop
 loop-holds c = (omega arith, omega arith, refl, search store-none)
 
-mul-natural : tie.Need-mul-natural Inv-loop μ-loop
-mul-natural c = omega arith
-
-shared-slice-copy-out-natural : tie.Need-shared-slice-copy-out-natural Inv-loop μ-loop
-shared-slice-copy-out-natural c = omega arith
-
-natural-requires : tie.Need-natural-requires Inv-loop μ-loop
-natural-requires c κs = tt
-
-mul-out : tie.Need-mul-out Inv-loop μ-loop
-mul-out c = omega arith
-
-slice-write-out : tie.Need-slice-write-out Inv-loop μ-loop
-slice-write-out c = omega arith
-
-add-i : tie.Need-add-i Inv-loop μ-loop
-add-i c = omega arith
-
-loop-less : tie.Need-loop-less Inv-loop μ-loop
-loop-less c = omega arith
-
 loop-again : tie.Need-loop-again Inv-loop μ-loop
 loop-again c = (omega arith, simp length-set (omega arith), search set-long, search (store-more, whole-read))
-
-same-length : tie.Need-same-length Inv-loop μ-loop
-same-length c = omega arith
 
 returns : tie.Need-returns Inv-loop μ-loop
 returns c = search store-end
@@ -57,13 +33,13 @@ copy-displacements-spec =
     Inv-loop
     μ-loop
     loop-holds
-    mul-natural
-    shared-slice-copy-out-natural
-    natural-requires
-    mul-out
-    slice-write-out
-    add-i
-    loop-less
+    (λ c. omega arith)
+    (λ c. omega arith)
+    (λ c κs. tt)
+    (λ c. omega arith)
+    (λ c. omega arith)
+    (λ c. omega arith)
+    (λ c. omega arith)
     loop-again
-    same-length
+    (λ c. omega arith)
     returns)

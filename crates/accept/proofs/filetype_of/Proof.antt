@@ -17,12 +17,6 @@ Inv-loop fd extent n first k origins₀ g₀ origins g = (0 < n) × (k ≤ 64) �
 abbrev μ-loop : tie.MeasureT-loop
 μ-loop fd extent n first k origins₀ g₀ origins g = k - g
 
-array-read-first : tie.Need-array-read-first Inv-loop μ-loop
-array-read-first c = omega arith
-
-div-k : tie.Need-div-k Inv-loop μ-loop
-div-k c = omega arith
-
 loop-holds : tie.Need-loop-holds Inv-loop μ-loop
 loop-holds c = (omega arith, omega arith, refl, omega arith, refl, search store-none)
 
@@ -34,21 +28,6 @@ mul-less c = search (scaled-fits, group-in)
 
 shared-slice-read-less : tie.Need-shared-slice-read-less Inv-loop μ-loop
 shared-slice-read-less c = search group-in
-
-less-requires : tie.Need-less-requires Inv-loop μ-loop
-less-requires c κs = tt
-
-mul-origins : tie.Need-mul-origins Inv-loop μ-loop
-mul-origins c = omega arith
-
-array-write-origins : tie.Need-array-write-origins Inv-loop μ-loop
-array-write-origins c = omega arith
-
-add-g : tie.Need-add-g Inv-loop μ-loop
-add-g c = omega arith
-
-loop-less : tie.Need-loop-less Inv-loop μ-loop
-loop-less c = omega arith
 
 loop-again : tie.Need-loop-again Inv-loop μ-loop
 loop-again c = (search needs, search needs, search needs, omega arith, search set-long, search (store-more, origin-is))
@@ -62,16 +41,16 @@ filetype-of-spec =
     (tie.spec
     Inv-loop
     μ-loop
-    array-read-first
-    div-k
+    (λ c. omega arith)
+    (λ c. omega arith)
     loop-holds
     mul-begin
     mul-less
     shared-slice-read-less
-    less-requires
-    mul-origins
-    array-write-origins
-    add-g
-    loop-less
+    (λ c κs. tt)
+    (λ c. omega arith)
+    (λ c. omega arith)
+    (λ c. omega arith)
+    (λ c. omega arith)
     loop-again
     returns)

@@ -16,35 +16,14 @@ Inv-loop fw fd n widths displacements i₀ i = (0 < n) × (n ≤ 8) × (length f
 abbrev μ-loop : tie.MeasureT-loop
 μ-loop fw fd n widths displacements i₀ i = length fw - i
 
-rem-if1 : tie.Need-rem-if1 Inv-loop μ-loop
-rem-if1 c = omega arith
-
 returns : tie.Need-returns Inv-loop μ-loop
 returns c = search groups-uneven
 
 loop-holds : tie.Need-loop-holds Inv-loop μ-loop
 loop-holds c = search passed-none
 
-rem-j : tie.Need-rem-j Inv-loop μ-loop
-rem-j c = omega arith
-
-div-group : tie.Need-div-group Inv-loop μ-loop
-div-group c = omega arith
-
 mul-begin : tie.Need-mul-begin Inv-loop μ-loop
 mul-begin c = search begin-fits
-
-mul-entry-built : tie.Need-mul-entry-built Inv-loop μ-loop
-mul-entry-built c = omega arith
-
-shared-slice-read-entry-built : tie.Need-shared-slice-read-entry-built Inv-loop μ-loop
-shared-slice-read-entry-built c = omega arith
-
-mul-entry-built-2 : tie.Need-mul-entry-built-2 Inv-loop μ-loop
-mul-entry-built-2 c = omega arith
-
-shared-slice-read-entry-built-2 : tie.Need-shared-slice-read-entry-built-2 Inv-loop μ-loop
-shared-slice-read-entry-built-2 c = omega arith
 
 mul-entry-built-3 : tie.Need-mul-entry-built-3 Inv-loop μ-loop
 mul-entry-built-3 c = search (entry-scaled, entry-in)
@@ -64,20 +43,8 @@ mul-entry-built-5 c = search (scaled-fits, begin-pairs)
 shared-slice-read-entry-built-3 : tie.Need-shared-slice-read-entry-built-3 Inv-loop μ-loop
 shared-slice-read-entry-built-3 c = search begin-pairs
 
-array-read-entry-built-3 : tie.Need-array-read-entry-built-3 Inv-loop μ-loop
-array-read-entry-built-3 c = omega arith
-
-entry-built-requires : tie.Need-entry-built-requires Inv-loop μ-loop
-entry-built-requires c κs = tt
-
 returns-2 : tie.Need-returns-2 Inv-loop μ-loop
 returns-2 c = search (groups-fail, built-no)
-
-add-i : tie.Need-add-i Inv-loop μ-loop
-add-i c = omega arith
-
-loop-less : tie.Need-loop-less Inv-loop μ-loop
-loop-less c = omega arith
 
 loop-again : tie.Need-loop-again Inv-loop μ-loop
 loop-again c =
@@ -94,26 +61,26 @@ is-built-spec =
     (tie.spec
     Inv-loop
     μ-loop
-    rem-if1
+    (λ c. omega arith)
     returns
     loop-holds
-    rem-j
-    div-group
+    (λ c. omega arith)
+    (λ c. omega arith)
     mul-begin
-    mul-entry-built
-    shared-slice-read-entry-built
-    mul-entry-built-2
-    shared-slice-read-entry-built-2
+    (λ c. omega arith)
+    (λ c. omega arith)
+    (λ c. omega arith)
+    (λ c. omega arith)
     mul-entry-built-3
     array-read-entry-built
     mul-entry-built-4
     array-read-entry-built-2
     mul-entry-built-5
     shared-slice-read-entry-built-3
-    array-read-entry-built-3
-    entry-built-requires
+    (λ c. omega arith)
+    (λ c κs. tt)
     returns-2
-    add-i
-    loop-less
+    (λ c. omega arith)
+    (λ c. omega arith)
     loop-again
     returns-3)

@@ -13,22 +13,13 @@ array-share-prefix-displacements c = search upto-field
 slice-aggregate-never-decrease : tie.Need-slice-aggregate-never-decrease
 slice-aggregate-never-decrease c = search prefix-field
 
-never-decrease-requires : tie.Need-never-decrease-requires
-never-decrease-requires c κs = search needs
-
 returns : tie.Need-returns
 unfolding shapesRefusal
 returns c = search (shaping, check-no, also-first, prefix-no) depth 12
 
-never-decrease-requires-2 : tie.Need-never-decrease-requires-2
-never-decrease-requires-2 c κs = search needs
-
 returns-2 : tie.Need-returns-2
 unfolding shapesRefusal
 returns-2 c = search (shaping, check-no, also-false, unflag-false) depth 12
-
-is-built-requires : tie.Need-is-built-requires
-is-built-requires c κs = search needs
 
 returns-3 : tie.Need-returns-3
 unfolding shapesRefusal
@@ -43,9 +34,6 @@ holes-fit-requires c κs =
 returns-4 : tie.Need-returns-4
 unfolding shapesRefusal
 returns-4 c = search (shaping, check-no, unflag-false) depth 12
-
-writes-requires : tie.Need-writes-requires
-writes-requires c κs = search needs
 
 returns-5 : tie.Need-returns-5
 unfolding shapesRefusal
@@ -71,15 +59,15 @@ shapes-refusal-spec =
     (tie.spec
     array-share-prefix-displacements
     slice-aggregate-never-decrease
-    never-decrease-requires
+    (λ c κs. search needs)
     returns
-    never-decrease-requires-2
+    (λ c κs. search needs)
     returns-2
-    is-built-requires
+    (λ c κs. search needs)
     returns-3
     holes-fit-requires
     returns-4
-    writes-requires
+    (λ c κs. search needs)
     returns-5
     shape-apart-requires
     returns-6

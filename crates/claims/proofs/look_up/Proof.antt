@@ -4,11 +4,12 @@ use borrow.Author.Needs.{needs}
 use Rattle.claims.proofs.look_up.Statement.{statement}
 use Rattle.claims.proofs.look_up.Tie as tie
 
-reverse-requires : tie.Need-reverse-requires
-reverse-requires c κs = search needs
-
 returns : tie.Need-returns
 returns c = search looked-up
 
 pub look-up-spec : {M : Type 1} → statement M
-look-up-spec = tie.close (tie.spec reverse-requires returns)
+look-up-spec =
+    tie.close
+    (tie.spec
+    (λ c κs. search needs)
+    returns)

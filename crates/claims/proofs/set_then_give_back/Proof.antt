@@ -4,24 +4,6 @@ use borrow.Author.Needs.{needs}
 use Rattle.claims.proofs.set_then_give_back.Statement.{statement}
 use Rattle.claims.proofs.set_then_give_back.Tie as tie
 
-set-view-requires : tie.Need-set-view-requires
-set-view-requires c κs = search needs
-
-give-back-requires : tie.Need-give-back-requires
-give-back-requires c κs = search needs
-
-same-length : tie.Need-same-length
-same-length c = search needs
-
-same-length-2 : tie.Need-same-length-2
-same-length-2 c = search needs
-
-same-length-3 : tie.Need-same-length-3
-same-length-3 c = search needs
-
-same-length-4 : tie.Need-same-length-4
-same-length-4 c = search needs
-
 returns : tie.Need-returns
 returns c =
     let gave = c .before .before .before .before .before .before in
@@ -33,10 +15,10 @@ pub set-then-give-back-spec : {M : Type 1} → statement M
 set-then-give-back-spec =
     tie.close
     (tie.spec
-    set-view-requires
-    give-back-requires
-    same-length
-    same-length-2
-    same-length-3
-    same-length-4
+    (λ c κs. search needs)
+    (λ c κs. search needs)
+    (λ c. search needs)
+    (λ c. search needs)
+    (λ c. search needs)
+    (λ c. search needs)
     returns)

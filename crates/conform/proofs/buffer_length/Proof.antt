@@ -4,14 +4,13 @@ use borrow.Author.Needs.{needs}
 use Rattle.conform.proofs.buffer_length.Statement.{statement}
 use Rattle.conform.proofs.buffer_length.Tie as tie
 
-number-requires : tie.Need-number-requires
-number-requires c κs = search needs
-
-capped-requires : tie.Need-capped-requires
-capped-requires c κs = search needs
-
 returns : tie.Need-returns
 returns c = buffer-length-is _ _ _ _ (c .before .number .ensures) (c .capped .ensures)
 
 pub buffer-length-spec : {M : Type 1} → statement M
-buffer-length-spec = tie.close (tie.spec number-requires capped-requires returns)
+buffer-length-spec =
+    tie.close
+    (tie.spec
+    (λ c κs. search needs)
+    (λ c κs. search needs)
+    returns)

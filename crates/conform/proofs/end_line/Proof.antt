@@ -4,14 +4,13 @@ use borrow.Author.Needs.{needs}
 use Rattle.conform.proofs.end_line.Statement.{statement}
 use Rattle.conform.proofs.end_line.Tie as tie
 
-end-requires : tie.Need-end-requires
-end-requires c κs = search needs
-
-ended-line-requires : tie.Need-ended-line-requires
-ended-line-requires c κs = search needs
-
 returns : tie.Need-returns
 returns c = search end-line-is
 
 pub end-line-spec : {M : Type 1} → statement M
-end-line-spec = tie.close (tie.spec end-requires ended-line-requires returns)
+end-line-spec =
+    tie.close
+    (tie.spec
+    (λ c κs. search needs)
+    (λ c κs. search needs)
+    returns)

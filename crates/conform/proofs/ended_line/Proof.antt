@@ -4,11 +4,12 @@ use borrow.Author.Needs.{needs, sfits-of}
 use Rattle.conform.proofs.ended_line.Statement.{statement}
 use Rattle.conform.proofs.ended_line.Tie as tie
 
-natural-requires : tie.Need-natural-requires
-natural-requires c κs = search needs
-
 returns : tie.Need-returns
 returns c = search (ended-is, sfits-of)
 
 pub ended-line-spec : {M : Type 1} → statement M
-ended-line-spec = tie.close (tie.spec natural-requires returns)
+ended-line-spec =
+    tie.close
+    (tie.spec
+    (λ c κs. search needs)
+    returns)

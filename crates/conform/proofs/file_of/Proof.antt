@@ -4,17 +4,17 @@ use borrow.Author.Needs.{needs}
 use Rattle.conform.proofs.file_of.Statement.{statement}
 use Rattle.conform.proofs.file_of.Tie as tie
 
-number-requires : tie.Need-number-requires
-number-requires c κs = search needs
-
 returns : tie.Need-returns
 returns c = file-first _ _ _ (c .before .if1 .taken) (c .number .ensures)
-
-number-requires-2 : tie.Need-number-requires-2
-number-requires-2 c κs = search needs
 
 returns-2 : tie.Need-returns-2
 returns-2 c = file-second _ _ _ (c .before .if1 .left) (c .number2 .ensures)
 
 pub file-of-spec : {M : Type 1} → statement M
-file-of-spec = tie.close (tie.spec number-requires returns number-requires-2 returns-2)
+file-of-spec =
+    tie.close
+    (tie.spec
+    (λ c κs. search needs)
+    returns
+    (λ c κs. search needs)
+    returns-2)

@@ -4,14 +4,13 @@ use borrow.Author.Needs.{needs}
 use Rattle.conform.proofs.fill_byte.Statement.{statement}
 use Rattle.conform.proofs.fill_byte.Tie as tie
 
-number-requires : tie.Need-number-requires
-number-requires c κs = search needs
-
-cast-result : tie.Need-cast-result
-cast-result c = search needs
-
 returns : tie.Need-returns
 returns c = search fill-is
 
 pub fill-byte-spec : {M : Type 1} → statement M
-fill-byte-spec = tie.close (tie.spec number-requires cast-result returns)
+fill-byte-spec =
+    tie.close
+    (tie.spec
+    (λ c κs. search needs)
+    (λ c. search needs)
+    returns)

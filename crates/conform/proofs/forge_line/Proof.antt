@@ -4,11 +4,12 @@ use borrow.Author.Needs.{needs}
 use Rattle.conform.proofs.forge_line.Statement.{statement}
 use Rattle.conform.proofs.forge_line.Tie as tie
 
-forge-requires : tie.Need-forge-requires
-forge-requires c κs = search needs
-
 returns : tie.Need-returns
 returns c = search forged-line-is
 
 pub forge-line-spec : {M : Type 1} → statement M
-forge-line-spec = tie.close (tie.spec forge-requires returns)
+forge-line-spec =
+    tie.close
+    (tie.spec
+    (λ c κs. search needs)
+    returns)

@@ -7,11 +7,10 @@ use Rattle.conform.proofs.rest_at.Tie as tie
 returns : tie.Need-returns
 returns c = (search needs, rest-past _ _ (c .if1 .taken))
 
-mul-result : tie.Need-mul-result
-mul-result c = search needs
-
-returns-2 : tie.Need-returns-2
-returns-2 c = search needs
-
 pub rest-at-spec : {M : Type 1} → statement M
-rest-at-spec = tie.close (tie.spec returns mul-result returns-2)
+rest-at-spec =
+    tie.close
+    (tie.spec
+    returns
+    (λ c. search needs)
+    (λ c. search needs))

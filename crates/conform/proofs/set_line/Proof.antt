@@ -4,71 +4,14 @@ use borrow.Author.Needs.{needs}
 use Rattle.conform.proofs.set_line.Statement.{statement}
 use Rattle.conform.proofs.set_line.Tie as tie
 
-list-length-requires : tie.Need-list-length-requires
-list-length-requires c κs = search needs
-
-list-length-requires-2 : tie.Need-list-length-requires-2
-list-length-requires-2 c κs = search needs
-
-list-length-requires-3 : tie.Need-list-length-requires-3
-list-length-requires-3 c κs = search needs
-
-list-length-requires-4 : tie.Need-list-length-requires-4
-list-length-requires-4 c κs = search needs
-
-add-second : tie.Need-add-second
-add-second c = search needs
-
-add-third : tie.Need-add-third
-add-third c = search needs
-
-add-fourth : tie.Need-add-fourth
-add-fourth c = search needs
-
-slice-aggregate-numbers-into : tie.Need-slice-aggregate-numbers-into
-slice-aggregate-numbers-into c = search needs
-
-numbers-into-requires : tie.Need-numbers-into-requires
-numbers-into-requires c κs = search needs
-
-slice-aggregate-offsets-into : tie.Need-slice-aggregate-offsets-into
-slice-aggregate-offsets-into c = search needs
-
-offsets-into-requires : tie.Need-offsets-into-requires
-offsets-into-requires c κs = search needs
-
-slice-aggregate-numbers-into-2 : tie.Need-slice-aggregate-numbers-into-2
-slice-aggregate-numbers-into-2 c = search needs
-
-numbers-into-requires-2 : tie.Need-numbers-into-requires-2
-numbers-into-requires-2 c κs = search needs
-
-slice-aggregate-offsets-into-2 : tie.Need-slice-aggregate-offsets-into-2
-slice-aggregate-offsets-into-2 c = search needs
-
-offsets-into-requires-2 : tie.Need-offsets-into-requires-2
-offsets-into-requires-2 c κs = search needs
-
-array-share-prefix-ew : tie.Need-array-share-prefix-ew
-array-share-prefix-ew c = search needs
-
 slice-aggregate-set-with : tie.Need-slice-aggregate-set-with
 slice-aggregate-set-with c = prefix-long _ _ (search needs)
-
-array-share-prefix-ed : tie.Need-array-share-prefix-ed
-array-share-prefix-ed c = search needs
 
 slice-aggregate-set-with-2 : tie.Need-slice-aggregate-set-with-2
 slice-aggregate-set-with-2 c = prefix-long _ _ (search needs)
 
-array-share-prefix-fw : tie.Need-array-share-prefix-fw
-array-share-prefix-fw c = search needs
-
 slice-aggregate-set-with-3 : tie.Need-slice-aggregate-set-with-3
 slice-aggregate-set-with-3 c = prefix-long _ _ (search needs)
-
-array-share-prefix-fd : tie.Need-array-share-prefix-fd
-array-share-prefix-fd c = search needs
 
 slice-aggregate-set-with-4 : tie.Need-slice-aggregate-set-with-4
 slice-aggregate-set-with-4 c = prefix-long _ _ (search needs)
@@ -97,28 +40,28 @@ pub set-line-spec : {M : Type 1} → statement M
 set-line-spec =
     tie.close
     (tie.spec
-    list-length-requires
-    list-length-requires-2
-    list-length-requires-3
-    list-length-requires-4
-    add-second
-    add-third
-    add-fourth
-    slice-aggregate-numbers-into
-    numbers-into-requires
-    slice-aggregate-offsets-into
-    offsets-into-requires
-    slice-aggregate-numbers-into-2
-    numbers-into-requires-2
-    slice-aggregate-offsets-into-2
-    offsets-into-requires-2
-    array-share-prefix-ew
+    (λ c κs. search needs)
+    (λ c κs. search needs)
+    (λ c κs. search needs)
+    (λ c κs. search needs)
+    (λ c. search needs)
+    (λ c. search needs)
+    (λ c. search needs)
+    (λ c. search needs)
+    (λ c κs. search needs)
+    (λ c. search needs)
+    (λ c κs. search needs)
+    (λ c. search needs)
+    (λ c κs. search needs)
+    (λ c. search needs)
+    (λ c κs. search needs)
+    (λ c. search needs)
     slice-aggregate-set-with
-    array-share-prefix-ed
+    (λ c. search needs)
     slice-aggregate-set-with-2
-    array-share-prefix-fw
+    (λ c. search needs)
     slice-aggregate-set-with-3
-    array-share-prefix-fd
+    (λ c. search needs)
     slice-aggregate-set-with-4
     set-with-requires
     returns)

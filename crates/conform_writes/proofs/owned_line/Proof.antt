@@ -4,11 +4,12 @@ use borrow.Author.Needs.{needs}
 use Rattle.conform_writes.proofs.owned_line.Statement.{statement}
 use Rattle.conform_writes.proofs.owned_line.Tie as tie
 
-owner-numbers-requires : tie.Need-owner-numbers-requires
-owner-numbers-requires c κs = search needs
-
 returns : tie.Need-returns
 returns c = search owned-line-is
 
 pub owned-line-spec : {M : Type 1} → statement M
-owned-line-spec = tie.close (tie.spec owner-numbers-requires returns)
+owned-line-spec =
+    tie.close
+    (tie.spec
+    (λ c κs. search needs)
+    returns)

@@ -4,15 +4,6 @@ use borrow.Author.Needs.{needs, sfits-of}
 use Rattle.conform_writes.proofs.owner_numbers.Statement.{statement}
 use Rattle.conform_writes.proofs.owner_numbers.Tie as tie
 
-enum-known-owner : tie.Need-enum-known-owner
-enum-known-owner c = search needs
-
-natural-requires : tie.Need-natural-requires
-natural-requires c κs = search needs
-
-enum-told : tie.Need-enum-told
-enum-told c = search needs
-
 returns : tie.Need-returns
 returns c =
     let told = c .before .before .before .owner .given in
@@ -23,4 +14,10 @@ returns-2 c = nobody-numbers _ (c .enum-told .given .1)
 
 pub owner-numbers-spec : {M : Type 1} → statement M
 owner-numbers-spec =
-    tie.close (tie.spec enum-known-owner natural-requires enum-told returns returns-2)
+    tie.close
+    (tie.spec
+    (λ c. search needs)
+    (λ c κs. search needs)
+    (λ c. search needs)
+    returns
+    returns-2)

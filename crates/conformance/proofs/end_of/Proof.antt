@@ -6,21 +6,6 @@ use borrow.Author.Needs.{needs}
 use Rattle.conformance.proofs.end_of.Statement.{statement}
 use Rattle.conformance.proofs.end_of.Tie as tie
 
-field-at-requires : tie.Need-field-at-requires
-field-at-requires c κs = search needs
-
-enum-known-found : tie.Need-enum-known-found
-enum-known-found c = search needs
-
-returns : tie.Need-returns
-returns c = search needs
-
-known-requires : tie.Need-known-requires
-known-requires c κs = search needs
-
-returns-2 : tie.Need-returns-2
-returns-2 c = search needs
-
 add-result : tie.Need-add-result
 add-result c = let f = c .before .before .before in record { fits = omega (arith, whole-within _ (f .found .given .0 .0) (f .found .given .0 .1 .0) (f .found .given .0 .1 .1 .0) (sym (f .found .given .1) ∙ f .before .before .field-at .ensures)) }
 
@@ -31,10 +16,10 @@ pub end-of-spec : {M : Type 1} → statement M
 end-of-spec =
     tie.close
     (tie.spec
-    field-at-requires
-    enum-known-found
-    returns
-    known-requires
-    returns-2
+    (λ c κs. search needs)
+    (λ c. search needs)
+    (λ c. search needs)
+    (λ c κs. search needs)
+    (λ c. search needs)
     add-result
     returns-3)

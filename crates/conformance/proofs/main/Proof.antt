@@ -15,53 +15,14 @@ Inv-loop driver₀ bytes0₀ bytes1₀ buf₀ place₀ left₀ driver bytes0 byt
 abbrev μ-loop : tie.MeasureT-loop
 μ-loop driver₀ bytes0₀ bytes1₀ buf₀ place₀ left₀ driver bytes0 bytes1 buf place left = left
 
-new-requires : tie.Need-new-requires Inv-loop μ-loop
-new-requires c κs = search needs
-
-loop-holds : tie.Need-loop-holds Inv-loop μ-loop
-loop-holds c = search needs
-
-slice-aggregate-read-record : tie.Need-slice-aggregate-read-record Inv-loop μ-loop
-slice-aggregate-read-record c = search needs
-
-read-record-requires : tie.Need-read-record-requires Inv-loop μ-loop
-read-record-requires c κs = search needs
-
-array-share-prefix-buf : tie.Need-array-share-prefix-buf Inv-loop μ-loop
-array-share-prefix-buf c = search needs
-
 slice-aggregate-end-of : tie.Need-slice-aggregate-end-of Inv-loop μ-loop
 slice-aggregate-end-of c = prefix-long _ _ (search needs)
-
-end-of-requires : tie.Need-end-of-requires Inv-loop μ-loop
-end-of-requires c κs = search needs
-
-print-stop-requires : tie.Need-print-stop-requires Inv-loop μ-loop
-print-stop-requires c κs = search needs
-
-returns : tie.Need-returns Inv-loop μ-loop
-returns c = search needs
-
-array-read-step : tie.Need-array-read-step Inv-loop μ-loop
-array-read-step c = search needs
-
-part-step-start : tie.Need-part-step-start Inv-loop μ-loop
-part-step-start c = search needs
 
 part-step-end : tie.Need-part-step-end Inv-loop μ-loop
 part-step-end c =
     let e = c .before .before in
     let r = e .before .before .before in
     within-front (r .read-record .last .0) (r .read-record .result) (e .end-of .result) (e .end-of .ensures)
-
-slice-aggregate-step : tie.Need-slice-aggregate-step Inv-loop μ-loop
-slice-aggregate-step c = search needs
-
-slice-aggregate-step-2 : tie.Need-slice-aggregate-step-2 Inv-loop μ-loop
-slice-aggregate-step-2 c = search needs
-
-step-requires : tie.Need-step-requires Inv-loop μ-loop
-step-requires c κs = search needs
 
 add-place : tie.Need-add-place Inv-loop μ-loop
 add-place c =
@@ -71,12 +32,6 @@ add-place c =
     let small : e .end-of .result ≤ 65538 = within-read (r .read-record .last .0) (r .read-record .result) (e .end-of .result) (e .end-of .ensures) (r .read-record .ensures) in
     let h : l .loop .place + e .end-of .result < 2 ^ 64 = omega (arith, l .loop .inv .4) in
     record { fits = h }
-
-sub-left : tie.Need-sub-left Inv-loop μ-loop
-sub-left c = search needs
-
-loop-less : tie.Need-loop-less Inv-loop μ-loop
-loop-less c = search needs
 
 loop-again : tie.Need-loop-again Inv-loop μ-loop
 loop-again c =
@@ -89,32 +44,29 @@ loop-again c =
     let k : l .loop .left - 1 ≤ 1000000 = omega (arith, l .loop .inv .3) in
     (search needs, search needs, search needs, k, h)
 
-returns-2 : tie.Need-returns-2 Inv-loop μ-loop
-returns-2 c = search needs
-
 pub main-spec : {M : Type 1} → statement M
 main-spec =
     tie.close
     (tie.spec
     Inv-loop
     μ-loop
-    new-requires
-    loop-holds
-    slice-aggregate-read-record
-    read-record-requires
-    array-share-prefix-buf
+    (λ c κs. search needs)
+    (λ c. search needs)
+    (λ c. search needs)
+    (λ c κs. search needs)
+    (λ c. search needs)
     slice-aggregate-end-of
-    end-of-requires
-    print-stop-requires
-    returns
-    array-read-step
-    part-step-start
+    (λ c κs. search needs)
+    (λ c κs. search needs)
+    (λ c. search needs)
+    (λ c. search needs)
+    (λ c. search needs)
     part-step-end
-    slice-aggregate-step
-    slice-aggregate-step-2
-    step-requires
+    (λ c. search needs)
+    (λ c. search needs)
+    (λ c κs. search needs)
     add-place
-    sub-left
-    loop-less
+    (λ c. search needs)
+    (λ c. search needs)
     loop-again
-    returns-2)
+    (λ c. search needs))

@@ -8,21 +8,6 @@ use Rattle.copier.specs.Parts.{onward, byteFrom}
 use Rattle.copier.proofs.copy_2.Statement.{statement}
 use Rattle.copier.proofs.copy_2.Tie as tie
 
-add-b1 : tie.Need-add-b1
-add-b1 c = search needs
-
-shared-slice-read-b1 : tie.Need-shared-slice-read-b1
-shared-slice-read-b1 c = search needs
-
-shared-slice-read-b0 : tie.Need-shared-slice-read-b0
-shared-slice-read-b0 c = search needs
-
-slice-write-target : tie.Need-slice-write-target
-slice-write-target c = search needs
-
-add-target : tie.Need-add-target
-add-target c = search needs
-
 slice-write-target-2 : tie.Need-slice-write-target-2
 slice-write-target-2 c = simp length-set (omega arith)
 
@@ -37,11 +22,11 @@ pub copy-2-spec : {M : Type 1} → statement M
 copy-2-spec =
     tie.close
     (tie.spec
-    add-b1
-    shared-slice-read-b1
-    shared-slice-read-b0
-    slice-write-target
-    add-target
+    (λ c. search needs)
+    (λ c. search needs)
+    (λ c. search needs)
+    (λ c. search needs)
+    (λ c. search needs)
     slice-write-target-2
     same-length
     returns)

@@ -8,44 +8,11 @@ use Rattle.copier.specs.Parts.{onward, byteFrom}
 use Rattle.copier.proofs.copy_4.Statement.{statement}
 use Rattle.copier.proofs.copy_4.Tie as tie
 
-add-b3 : tie.Need-add-b3
-add-b3 c = search needs
-
-shared-slice-read-b3 : tie.Need-shared-slice-read-b3
-shared-slice-read-b3 c = search needs
-
-add-b2 : tie.Need-add-b2
-add-b2 c = search needs
-
-shared-slice-read-b2 : tie.Need-shared-slice-read-b2
-shared-slice-read-b2 c = search needs
-
-add-b1 : tie.Need-add-b1
-add-b1 c = search needs
-
-shared-slice-read-b1 : tie.Need-shared-slice-read-b1
-shared-slice-read-b1 c = search needs
-
-shared-slice-read-b0 : tie.Need-shared-slice-read-b0
-shared-slice-read-b0 c = search needs
-
-slice-write-target : tie.Need-slice-write-target
-slice-write-target c = search needs
-
-add-target : tie.Need-add-target
-add-target c = search needs
-
 slice-write-target-2 : tie.Need-slice-write-target-2
 slice-write-target-2 c = simp length-set (omega arith)
 
-add-target-2 : tie.Need-add-target-2
-add-target-2 c = search needs
-
 slice-write-target-3 : tie.Need-slice-write-target-3
 slice-write-target-3 c = simp length-set (omega arith)
-
-add-target-3 : tie.Need-add-target-3
-add-target-3 c = search needs
 
 slice-write-target-4 : tie.Need-slice-write-target-4
 slice-write-target-4 c = simp length-set (omega arith)
@@ -61,19 +28,19 @@ pub copy-4-spec : {M : Type 1} → statement M
 copy-4-spec =
     tie.close
     (tie.spec
-    add-b3
-    shared-slice-read-b3
-    add-b2
-    shared-slice-read-b2
-    add-b1
-    shared-slice-read-b1
-    shared-slice-read-b0
-    slice-write-target
-    add-target
+    (λ c. search needs)
+    (λ c. search needs)
+    (λ c. search needs)
+    (λ c. search needs)
+    (λ c. search needs)
+    (λ c. search needs)
+    (λ c. search needs)
+    (λ c. search needs)
+    (λ c. search needs)
     slice-write-target-2
-    add-target-2
+    (λ c. search needs)
     slice-write-target-3
-    add-target-3
+    (λ c. search needs)
     slice-write-target-4
     same-length
     returns)

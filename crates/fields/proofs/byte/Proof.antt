@@ -10,17 +10,8 @@ use Rattle.fields.proofs.byte.Tie as tie
 returns : tie.Need-returns
 returns c = let a = c .before .args in (past-begin (a .s .now) (a .at) (a .i) (c .if1 .taken), search needs)
 
-sub-if2 : tie.Need-sub-if2
-sub-if2 c = search needs
-
 returns-2 : tie.Need-returns-2
 returns-2 c = let a = c .before .before .args in (past-rest (a .s .now) (a .at) (a .i) (c .if2 .taken), search needs)
-
-add-place : tie.Need-add-place
-add-place c = search needs
-
-shared-slice-read-result : tie.Need-shared-slice-read-result
-shared-slice-read-result c = search needs
 
 cast-result : tie.Need-cast-result
 cast-result c = let a = c .before .before .before .args in record { fits = omega (arith, c .shared-slice-known .given (a .at + a .i)) }
@@ -31,4 +22,11 @@ returns-3 c = let a = c .before .before .before .args in (refl, omega (arith, c 
 pub byte-spec : {M : Type 1} → statement M
 byte-spec =
     tie.close
-    (tie.spec returns sub-if2 returns-2 add-place shared-slice-read-result cast-result returns-3)
+    (tie.spec
+    returns
+    (λ c. search needs)
+    returns-2
+    (λ c. search needs)
+    (λ c. search needs)
+    cast-result
+    returns-3)

@@ -8,29 +8,14 @@ use Rattle.fields.proofs.field_at.Tie as tie
 returns : tie.Need-returns
 returns c = let a = c .before .before .args in field-end (a .s .now) (a .at) (omega arith)
 
-sub-left : tie.Need-sub-left
-sub-left c = search needs
-
 returns-2 : tie.Need-returns-2
 returns-2 c = let a = c .before .before .before .args in cut-header (a .s .now) (a .at) (omega arith) (omega arith)
-
-add-number-from : tie.Need-add-number-from
-add-number-from c = search needs
-
-number-from-requires : tie.Need-number-from-requires
-number-from-requires c κs = search needs
 
 returns-3 : tie.Need-returns-3
 returns-3 c =
     let n = c .before .number-from in
     let a = c .before .before .before .before .before .args in
     cut-body (a .s .now) (a .at) (omega arith) (omega arith) (n .result) (n .ensures) (omega arith)
-
-shared-slice-read-t9 : tie.Need-shared-slice-read-t9
-shared-slice-read-t9 c = search needs
-
-add-t5 : tie.Need-add-t5
-add-t5 c = search needs
 
 returns-4 : tie.Need-returns-4
 returns-4 c =
@@ -43,11 +28,11 @@ field-at-spec =
     tie.close
     (tie.spec
     returns
-    sub-left
+    (λ c. search needs)
     returns-2
-    add-number-from
-    number-from-requires
+    (λ c. search needs)
+    (λ c κs. search needs)
     returns-3
-    shared-slice-read-t9
-    add-t5
+    (λ c. search needs)
+    (λ c. search needs)
     returns-4)

@@ -16,18 +16,6 @@ give-widths-requires-2 c κs = search filetype-room
 give-displacements-requires-2 : tie.Need-give-displacements-requires-2
 give-displacements-requires-2 c κs = search (filetype-room, filetype-signed)
 
-same-length : tie.Need-same-length
-same-length c = omega arith
-
-same-length-2 : tie.Need-same-length-2
-same-length-2 c = omega arith
-
-same-length-3 : tie.Need-same-length-3
-same-length-3 c = omega arith
-
-same-length-4 : tie.Need-same-length-4
-same-length-4 c = omega arith
-
 returns : tie.Need-returns
 returns c = search (etype-widths-are, etype-displacements-are, filetype-widths-are, filetype-displacements-are)
 
@@ -39,8 +27,8 @@ give-back-spec =
     give-displacements-requires
     give-widths-requires-2
     give-displacements-requires-2
-    same-length
-    same-length-2
-    same-length-3
-    same-length-4
+    (λ c. omega arith)
+    (λ c. omega arith)
+    (λ c. omega arith)
+    (λ c. omega arith)
     returns)

@@ -17,9 +17,6 @@ Inv-loop origins ds n k out₀ total group₀ entry₀ i₀ out group entry i = 
 abbrev μ-loop : tie.MeasureT-loop
 μ-loop origins ds n k out₀ total group₀ entry₀ i₀ out group entry i = k * n - i
 
-mul-total : tie.Need-mul-total Inv-loop μ-loop
-mul-total c = omega arith
-
 loop-holds : tie.Need-loop-holds Inv-loop μ-loop
 loop-holds c = (omega arith, search first-group, search first-entry, refl, search store-none)
 
@@ -38,29 +35,14 @@ element-copy-out-shifted-2 c = search entry-held
 shifted-requires : tie.Need-shifted-requires Inv-loop μ-loop
 shifted-requires c κs = search sum-small
 
-mul-d : tie.Need-mul-d Inv-loop μ-loop
-mul-d c = omega arith
-
-slice-set-from-d : tie.Need-slice-set-from-d Inv-loop μ-loop
-slice-set-from-d c = omega arith
-
 next-group-requires : tie.Need-next-group-requires Inv-loop μ-loop
 next-group-requires c κs = (search entry-below, search group-held)
 
 next-entry-requires : tie.Need-next-entry-requires Inv-loop μ-loop
 next-entry-requires c κs = search entry-below
 
-add-i : tie.Need-add-i Inv-loop μ-loop
-add-i c = omega arith
-
-loop-less : tie.Need-loop-less Inv-loop μ-loop
-loop-less c = omega arith
-
 loop-again : tie.Need-loop-again Inv-loop μ-loop
 loop-again c = (omega arith, search group-next, search entry-next, search set-long, search (store-more, displacement-is))
-
-same-length : tie.Need-same-length Inv-loop μ-loop
-same-length c = omega arith
 
 returns : tie.Need-returns Inv-loop μ-loop
 returns c = search store-end
@@ -71,19 +53,19 @@ give-displacements-spec =
     (tie.spec
     Inv-loop
     μ-loop
-    mul-total
+    (λ c. omega arith)
     loop-holds
     mul-shifted
     element-copy-out-shifted
     mul-shifted-2
     element-copy-out-shifted-2
     shifted-requires
-    mul-d
-    slice-set-from-d
+    (λ c. omega arith)
+    (λ c. omega arith)
     next-group-requires
     next-entry-requires
-    add-i
-    loop-less
+    (λ c. omega arith)
+    (λ c. omega arith)
     loop-again
-    same-length
+    (λ c. omega arith)
     returns)

@@ -17,9 +17,6 @@ Inv-loop ws n k out₀ total entry₀ i₀ out entry i = (i ≤ k * n) × (entry
 abbrev μ-loop : tie.MeasureT-loop
 μ-loop ws n k out₀ total entry₀ i₀ out entry i = k * n - i
 
-mul-total : tie.Need-mul-total Inv-loop μ-loop
-mul-total c = omega arith
-
 loop-holds : tie.Need-loop-holds Inv-loop μ-loop
 loop-holds c = (omega arith, search first-entry, refl, search store-none)
 
@@ -29,26 +26,11 @@ mul-out c = search entry-scaled
 element-copy-out-out : tie.Need-element-copy-out-out Inv-loop μ-loop
 element-copy-out-out c = search entry-held
 
-mul-out-2 : tie.Need-mul-out-2 Inv-loop μ-loop
-mul-out-2 c = omega arith
-
-slice-write-out : tie.Need-slice-write-out Inv-loop μ-loop
-slice-write-out c = omega arith
-
 next-entry-requires : tie.Need-next-entry-requires Inv-loop μ-loop
 next-entry-requires c κs = search entry-below
 
-add-i : tie.Need-add-i Inv-loop μ-loop
-add-i c = omega arith
-
-loop-less : tie.Need-loop-less Inv-loop μ-loop
-loop-less c = omega arith
-
 loop-again : tie.Need-loop-again Inv-loop μ-loop
 loop-again c = (omega arith, search entry-next, search set-long, search (store-more, width-is))
-
-same-length : tie.Need-same-length Inv-loop μ-loop
-same-length c = omega arith
 
 returns : tie.Need-returns Inv-loop μ-loop
 returns c = search store-end
@@ -59,15 +41,15 @@ give-widths-spec =
     (tie.spec
     Inv-loop
     μ-loop
-    mul-total
+    (λ c. omega arith)
     loop-holds
     mul-out
     element-copy-out-out
-    mul-out-2
-    slice-write-out
+    (λ c. omega arith)
+    (λ c. omega arith)
     next-entry-requires
-    add-i
-    loop-less
+    (λ c. omega arith)
+    (λ c. omega arith)
     loop-again
-    same-length
+    (λ c. omega arith)
     returns)

@@ -5,14 +5,13 @@ use mir.Syntax.{w64}
 use Rattle.given.proofs.shifted.Statement.{statement}
 use Rattle.given.proofs.shifted.Tie as tie
 
-add-result : tie.Need-add-result
-add-result c = omega arith
-
-cast-result : tie.Need-cast-result
-cast-result c = omega arith
-
 returns : tie.Need-returns
 returns c = toZ-pos w64 (omega arith)
 
 pub shifted-spec : {M : Type 1} → statement M
-shifted-spec = tie.close (tie.spec add-result cast-result returns)
+shifted-spec =
+    tie.close
+    (tie.spec
+    (λ c. omega arith)
+    (λ c. omega arith)
+    returns)

@@ -22,18 +22,12 @@ returns-4 : tie.Need-returns-4
 unfolding etypeHeld
 returns-4 c = search chain depth 7
 
-entries-fit-requires : tie.Need-entries-fit-requires
-entries-fit-requires c κs = search needs
-
 returns-5 : tie.Need-returns-5
 unfolding etypeHeld
 returns-5 c = search chain depth 7
 
 slice-aggregate-never-decrease : tie.Need-slice-aggregate-never-decrease
 slice-aggregate-never-decrease c = search prefix
-
-never-decrease-requires : tie.Need-never-decrease-requires
-never-decrease-requires c κs = search needs
 
 returns-6 : tie.Need-returns-6
 unfolding etypeHeld
@@ -47,8 +41,8 @@ etype-kept-spec =
     returns-2
     returns-3
     returns-4
-    entries-fit-requires
+    (λ c κs. search needs)
     returns-5
     slice-aggregate-never-decrease
-    never-decrease-requires
+    (λ c κs. search needs)
     returns-6)

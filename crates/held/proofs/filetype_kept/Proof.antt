@@ -48,9 +48,6 @@ mul-instances-step c = search (needs, last-in)
 element-copy-out-instances-step : tie.Need-element-copy-out-instances-step
 element-copy-out-instances-step c = search (needs, last-in)
 
-element-copy-out-instances-step-2 : tie.Need-element-copy-out-instances-step-2
-element-copy-out-instances-step-2 c = search needs
-
 instances-step-requires : tie.Need-instances-step-requires
 instances-step-requires c κs = search (tests, last-small, first-small, origins-flag)
 
@@ -81,7 +78,7 @@ filetype-kept-spec =
     sub-last
     mul-instances-step
     element-copy-out-instances-step
-    element-copy-out-instances-step-2
+    (λ c. search needs)
     instances-step-requires
     returns-7
     holes-fit-requires

@@ -11,9 +11,6 @@ returns : tie.Need-returns
 unfolding viewHeld
 returns c = keeps-by _ _ _ (search chain depth 6)
 
-etype-kept-requires : tie.Need-etype-kept-requires
-etype-kept-requires c κs = search needs
-
 returns-2 : tie.Need-returns-2
 unfolding viewHeld
 returns-2 c = keeps-by _ _ _ (search chain depth 6)
@@ -24,9 +21,6 @@ filetype-kept-requires c κs = search tests
 returns-3 : tie.Need-returns-3
 unfolding viewHeld
 returns-3 c = keeps-by _ _ _ (search chain depth 6)
-
-writes-requires : tie.Need-writes-requires
-writes-requires c κs = search needs
 
 returns-4 : tie.Need-returns-4
 unfolding viewHeld
@@ -47,11 +41,11 @@ parts-keep-spec =
     tie.close
     (tie.spec
     returns
-    etype-kept-requires
+    (λ c κs. search needs)
     returns-2
     filetype-kept-requires
     returns-3
-    writes-requires
+    (λ c κs. search needs)
     returns-4
     shape-apart-requires
     returns-5)

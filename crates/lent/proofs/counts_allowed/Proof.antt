@@ -30,9 +30,6 @@ returns-6 : tie.Need-returns-6
 unfolding countsAllowed etypeEntriesAllowed filetypeEntriesAllowed
 returns-6 c = search counting depth 12
 
-mul-result : tie.Need-mul-result
-mul-result c = omega arith
-
 returns-7 : tie.Need-returns-7
 unfolding countsAllowed etypeEntriesAllowed filetypeEntriesAllowed
 returns-7 c = search counting depth 12
@@ -40,4 +37,12 @@ returns-7 c = search counting depth 12
 pub counts-allowed-spec : {M : Type 1} → statement M
 counts-allowed-spec =
     tie.close
-    (tie.spec returns returns-2 returns-3 returns-4 returns-5 returns-6 mul-result returns-7)
+    (tie.spec
+    returns
+    returns-2
+    returns-3
+    returns-4
+    returns-5
+    returns-6
+    (λ c. omega arith)
+    returns-7)

@@ -6,11 +6,13 @@ use Rattle.lent.proofs.displacement_allowed.Tie as tie
 returns : tie.Need-returns
 returns c = search displacement-negative
 
-natural-requires : tie.Need-natural-requires
-natural-requires c κs = tt
-
 returns-2 : tie.Need-returns-2
 returns-2 c = search displacement-is
 
 pub displacement-allowed-spec : {M : Type 1} → statement M
-displacement-allowed-spec = tie.close (tie.spec returns natural-requires returns-2)
+displacement-allowed-spec =
+    tie.close
+    (tie.spec
+    returns
+    (λ c κs. tt)
+    returns-2)

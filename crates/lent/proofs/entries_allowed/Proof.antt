@@ -18,29 +18,8 @@ abbrev μ-loop : tie.MeasureT-loop
 loop-holds : tie.Need-loop-holds Inv-loop μ-loop
 loop-holds c = search passed-none
 
-mul-entry-allowed : tie.Need-mul-entry-allowed Inv-loop μ-loop
-mul-entry-allowed c = omega arith
-
-shared-slice-read-entry-allowed : tie.Need-shared-slice-read-entry-allowed Inv-loop μ-loop
-shared-slice-read-entry-allowed c = omega arith
-
-mul-entry-allowed-2 : tie.Need-mul-entry-allowed-2 Inv-loop μ-loop
-mul-entry-allowed-2 c = omega arith
-
-shared-slice-copy-out-entry-allowed : tie.Need-shared-slice-copy-out-entry-allowed Inv-loop μ-loop
-shared-slice-copy-out-entry-allowed c = omega arith
-
-entry-allowed-requires : tie.Need-entry-allowed-requires Inv-loop μ-loop
-entry-allowed-requires c κs = tt
-
 returns : tie.Need-returns Inv-loop μ-loop
 returns c = search (passed-fails, lent-no)
-
-add-i : tie.Need-add-i Inv-loop μ-loop
-add-i c = omega arith
-
-loop-less : tie.Need-loop-less Inv-loop μ-loop
-loop-less c = omega arith
 
 loop-again : tie.Need-loop-again Inv-loop μ-loop
 loop-again c = search (passed-more, lent-yes)
@@ -55,13 +34,13 @@ entries-allowed-spec =
     Inv-loop
     μ-loop
     loop-holds
-    mul-entry-allowed
-    shared-slice-read-entry-allowed
-    mul-entry-allowed-2
-    shared-slice-copy-out-entry-allowed
-    entry-allowed-requires
+    (λ c. omega arith)
+    (λ c. omega arith)
+    (λ c. omega arith)
+    (λ c. omega arith)
+    (λ c κs. tt)
     returns
-    add-i
-    loop-less
+    (λ c. omega arith)
+    (λ c. omega arith)
     loop-again
     returns-2)

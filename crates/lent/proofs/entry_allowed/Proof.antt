@@ -6,14 +6,14 @@ use Rattle.lent.proofs.entry_allowed.Tie as tie
 returns : tie.Need-returns
 returns c = search entry-negative
 
-natural-requires : tie.Need-natural-requires
-natural-requires c κs = tt
-
-entry-fits-requires : tie.Need-entry-fits-requires
-entry-fits-requires c κs = tt
-
 returns-2 : tie.Need-returns-2
 returns-2 c = search entry-is
 
 pub entry-allowed-spec : {M : Type 1} → statement M
-entry-allowed-spec = tie.close (tie.spec returns natural-requires entry-fits-requires returns-2)
+entry-allowed-spec =
+    tie.close
+    (tie.spec
+    returns
+    (λ c κs. tt)
+    (λ c κs. tt)
+    returns-2)

@@ -3,9 +3,6 @@ use Rattle.lent.proofs.Lending.{extent-low, extent-is}
 use Rattle.lent.proofs.extent_allowed.Statement.{statement}
 use Rattle.lent.proofs.extent_allowed.Tie as tie
 
-natural-requires : tie.Need-natural-requires
-natural-requires c κs = tt
-
 returns : tie.Need-returns
 returns c = search extent-low
 
@@ -13,4 +10,9 @@ returns-2 : tie.Need-returns-2
 returns-2 c = search extent-is
 
 pub extent-allowed-spec : {M : Type 1} → statement M
-extent-allowed-spec = tie.close (tie.spec natural-requires returns returns-2)
+extent-allowed-spec =
+    tie.close
+    (tie.spec
+    (λ c κs. tt)
+    returns
+    returns-2)

@@ -22,21 +22,9 @@ returns c = search native-short
 loop-holds : tie.Need-loop-holds Inv-loop μ-loop
 loop-holds c = search passed-none
 
-shared-slice-read-if2 : tie.Need-shared-slice-read-if2 Inv-loop μ-loop
-shared-slice-read-if2 c = omega arith
-
-array-read-if2 : tie.Need-array-read-if2 Inv-loop μ-loop
-array-read-if2 c = omega arith
-
 returns-2 : tie.Need-returns-2 Inv-loop μ-loop
 unfolding nativeName
 returns-2 c = search (native-fails, native-no)
-
-add-i : tie.Need-add-i Inv-loop μ-loop
-add-i c = omega arith
-
-loop-less : tie.Need-loop-less Inv-loop μ-loop
-loop-less c = omega arith
 
 loop-again : tie.Need-loop-again Inv-loop μ-loop
 unfolding nativeName
@@ -53,10 +41,10 @@ is-native-spec =
     μ-loop
     returns
     loop-holds
-    shared-slice-read-if2
-    array-read-if2
+    (λ c. omega arith)
+    (λ c. omega arith)
     returns-2
-    add-i
-    loop-less
+    (λ c. omega arith)
+    (λ c. omega arith)
     loop-again
     returns-3)

@@ -6,21 +6,6 @@ use borrow.Author.Needs.{needs}
 use Rattle.lent.proofs.limits_refusal.Statement.{statement}
 use Rattle.lent.proofs.limits_refusal.Tie as tie
 
-is-native-requires : tie.Need-is-native-requires
-is-native-requires c κs = search needs
-
-displacement-allowed-requires : tie.Need-displacement-allowed-requires
-displacement-allowed-requires c κs = search needs
-
-counts-allowed-requires : tie.Need-counts-allowed-requires
-counts-allowed-requires c κs = search needs
-
-extent-allowed-requires : tie.Need-extent-allowed-requires
-extent-allowed-requires c κs = search needs
-
-extent-allowed-requires-2 : tie.Need-extent-allowed-requires-2
-extent-allowed-requires-2 c κs = search needs
-
 returns : tie.Need-returns
 unfolding limitsRefusal
 returns c = search (passing, check-no, unflag-false) depth 16 fits 20000
@@ -69,11 +54,11 @@ pub limits-refusal-spec : {M : Type 1} → statement M
 limits-refusal-spec =
     tie.close
     (tie.spec
-    is-native-requires
-    displacement-allowed-requires
-    counts-allowed-requires
-    extent-allowed-requires
-    extent-allowed-requires-2
+    (λ c κs. search needs)
+    (λ c κs. search needs)
+    (λ c κs. search needs)
+    (λ c κs. search needs)
+    (λ c κs. search needs)
     returns
     returns-2
     returns-3

@@ -6,15 +6,6 @@ use borrow.Author.Needs.{needs}
 use Rattle.locate.proofs.end_from.Statement.{statement}
 use Rattle.locate.proofs.end_from.Tie as tie
 
-sub-room : tie.Need-sub-room
-sub-room c = search needs
-
-sub-room-2 : tie.Need-sub-room-2
-sub-room-2 c = search needs
-
-div-tile : tie.Need-div-tile
-div-tile c = search needs
-
 mul-before : tie.Need-mul-before
 mul-before c = search (tests, cond-yes, cond-no, before-fits, last-fits, end-fits)
 
@@ -35,4 +26,12 @@ returns-2 c = search (tests, cond-yes, cond-no, before-fits, last-fits, end-fits
 pub end-from-spec : {M : Type 1} → statement M
 end-from-spec =
     tie.close
-    (tie.spec sub-room sub-room-2 div-tile mul-before add-last add-result returns returns-2)
+    (tie.spec
+    (λ c. search needs)
+    (λ c. search needs)
+    (λ c. search needs)
+    mul-before
+    add-last
+    add-result
+    returns
+    returns-2)

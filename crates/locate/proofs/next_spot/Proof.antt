@@ -4,17 +4,17 @@ use borrow.Author.Needs.{needs}
 use Rattle.locate.proofs.next_spot.Statement.{statement}
 use Rattle.locate.proofs.next_spot.Tie as tie
 
-add-next : tie.Need-add-next
-add-next c = search needs
-
 returns : tie.Need-returns
 returns c = search placing
-
-add-after : tie.Need-add-after
-add-after c = search needs
 
 returns-2 : tie.Need-returns-2
 returns-2 c = search placing
 
 pub next-spot-spec : {M : Type 1} → statement M
-next-spot-spec = tie.close (tie.spec add-next returns add-after returns-2)
+next-spot-spec =
+    tie.close
+    (tie.spec
+    (λ c. search needs)
+    returns
+    (λ c. search needs)
+    returns-2)

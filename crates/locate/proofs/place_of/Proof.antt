@@ -4,9 +4,6 @@ use borrow.Author.Needs.{needs}
 use Rattle.locate.proofs.place_of.Statement.{statement}
 use Rattle.locate.proofs.place_of.Tie as tie
 
-spot-of-requires : tie.Need-spot-of-requires
-spot-of-requires c κs = search needs
-
 begin-at-requires : tie.Need-begin-at-requires
 begin-at-requires c κs = search placing
 
@@ -14,4 +11,9 @@ returns : tie.Need-returns
 returns c = search placing
 
 pub place-of-spec : {M : Type 1} → statement M
-place-of-spec = tie.close (tie.spec spot-of-requires begin-at-requires returns)
+place-of-spec =
+    tie.close
+    (tie.spec
+    (λ c κs. search needs)
+    begin-at-requires
+    returns)

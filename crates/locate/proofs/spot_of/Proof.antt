@@ -4,9 +4,6 @@ use borrow.Author.Needs.{needs}
 use Rattle.locate.proofs.spot_of.Statement.{statement}
 use Rattle.locate.proofs.spot_of.Tie as tie
 
-natural-requires : tie.Need-natural-requires
-natural-requires c κs = search needs
-
 div-tile : tie.Need-div-tile
 div-tile c = search placing
 
@@ -24,4 +21,11 @@ returns c = search placing
 
 pub spot-of-spec : {M : Type 1} → statement M
 spot-of-spec =
-    tie.close (tie.spec natural-requires div-tile mul-step add-begin rem-instance returns)
+    tie.close
+    (tie.spec
+    (λ c κs. search needs)
+    div-tile
+    mul-step
+    add-begin
+    rem-instance
+    returns)

@@ -7,9 +7,6 @@ use Rattle.ranges.proofs.access_allowed.Tie as tie
 returns : tie.Need-returns
 returns c = search accessing
 
-natural-requires : tie.Need-natural-requires
-natural-requires c κs = search needs
-
 returns-2 : tie.Need-returns-2
 returns-2 c = search accessing
 
@@ -17,4 +14,10 @@ returns-3 : tie.Need-returns-3
 returns-3 c = search accessing
 
 pub access-allowed-spec : {M : Type 1} → statement M
-access-allowed-spec = tie.close (tie.spec returns natural-requires returns-2 returns-3)
+access-allowed-spec =
+    tie.close
+    (tie.spec
+    returns
+    (λ c κs. search needs)
+    returns-2
+    returns-3)

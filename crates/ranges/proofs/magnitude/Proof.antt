@@ -7,9 +7,6 @@ use Rattle.ranges.proofs.magnitude.Tie as tie
 sub-natural : tie.Need-sub-natural
 sub-natural c = search measuring
 
-natural-requires : tie.Need-natural-requires
-natural-requires c κs = search needs
-
 add-result : tie.Need-add-result
 add-result c = search measuring
 
@@ -17,4 +14,10 @@ returns : tie.Need-returns
 returns c = search measuring
 
 pub magnitude-spec : {M : Type 1} → statement M
-magnitude-spec = tie.close (tie.spec sub-natural natural-requires add-result returns)
+magnitude-spec =
+    tie.close
+    (tie.spec
+    sub-natural
+    (λ c κs. search needs)
+    add-result
+    returns)

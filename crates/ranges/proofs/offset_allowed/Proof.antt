@@ -7,11 +7,13 @@ use Rattle.ranges.proofs.offset_allowed.Tie as tie
 returns : tie.Need-returns
 returns c = search standing
 
-natural-requires : tie.Need-natural-requires
-natural-requires c κs = search needs
-
 returns-2 : tie.Need-returns-2
 returns-2 c = search standing
 
 pub offset-allowed-spec : {M : Type 1} → statement M
-offset-allowed-spec = tie.close (tie.spec returns natural-requires returns-2)
+offset-allowed-spec =
+    tie.close
+    (tie.spec
+    returns
+    (λ c κs. search needs)
+    returns-2)

@@ -10,11 +10,14 @@ returns c = search raising
 returns-2 : tie.Need-returns-2
 returns-2 c = search raising
 
-add-t4 : tie.Need-add-t4
-add-t4 c = search needs
-
 returns-3 : tie.Need-returns-3
 returns-3 c = search raising
 
 pub target-above-spec : {M : Type 1} → statement M
-target-above-spec = tie.close (tie.spec returns returns-2 add-t4 returns-3)
+target-above-spec =
+    tie.close
+    (tie.spec
+    returns
+    returns-2
+    (λ c. search needs)
+    returns-3)

@@ -7,11 +7,13 @@ use Rattle.ranges.proofs.target_below.Tie as tie
 returns : tie.Need-returns
 returns c = search lowering
 
-target-above-requires : tie.Need-target-above-requires
-target-above-requires c κs = search needs
-
 returns-2 : tie.Need-returns-2
 returns-2 c = search lowering
 
 pub target-below-spec : {M : Type 1} → statement M
-target-below-spec = tie.close (tie.spec returns target-above-requires returns-2)
+target-below-spec =
+    tie.close
+    (tie.spec
+    returns
+    (λ c κs. search needs)
+    returns-2)

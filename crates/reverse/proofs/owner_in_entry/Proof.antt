@@ -8,14 +8,8 @@ use Rattle.reverse.proofs.owner_in_entry.Tie as tie
 returns : tie.Need-returns
 returns c = search entry-after
 
-rem-rest : tie.Need-rem-rest
-rem-rest c = omega arith
-
 returns-2 : tie.Need-returns-2
 returns-2 c = search entry-beside
-
-div-tile : tie.Need-div-tile
-div-tile c = omega arith
 
 returns-3 : tie.Need-returns-3
 returns-3 c = search tile-past
@@ -29,12 +23,6 @@ add-offset c = search (needs, offset-fits)
 returns-4 : tie.Need-returns-4
 returns-4 c = search offset-past
 
-add-index : tie.Need-add-index
-add-index c = omega arith
-
-to-offset-requires : tie.Need-to-offset-requires
-to-offset-requires c κs = omega arith
-
 returns-5 : tie.Need-returns-5
 returns-5 c = search entry-hit
 
@@ -43,13 +31,13 @@ owner-in-entry-spec =
     tie.close
     (tie.spec
     returns
-    rem-rest
+    (λ c. omega arith)
     returns-2
-    div-tile
+    (λ c. omega arith)
     returns-3
     mul-before
     add-offset
     returns-4
-    add-index
-    to-offset-requires
+    (λ c. omega arith)
+    (λ c κs. omega arith)
     returns-5)

@@ -14,41 +14,17 @@ abbrev μ-loop : tie.MeasureT-loop
 loop-holds : tie.Need-loop-holds Inv-loop μ-loop
 loop-holds c = search tried-none
 
-mul-width : tie.Need-mul-width Inv-loop μ-loop
-mul-width c = omega arith
-
-element-copy-out-width : tie.Need-element-copy-out-width Inv-loop μ-loop
-element-copy-out-width c = omega arith
-
-mul-start : tie.Need-mul-start Inv-loop μ-loop
-mul-start c = omega arith
-
-element-copy-out-start : tie.Need-element-copy-out-start Inv-loop μ-loop
-element-copy-out-start c = omega arith
-
 add-start : tie.Need-add-start Inv-loop μ-loop
 add-start c = search start-fits
 
 owner-in-entry-requires : tie.Need-owner-in-entry-requires Inv-loop μ-loop
 owner-in-entry-requires c κs = search data-small
 
-enum-told : tie.Need-enum-told Inv-loop μ-loop
-enum-told c = omega arith
-
 returns : tie.Need-returns Inv-loop μ-loop
 returns c = search tried-stop
 
-enum-told-2 : tie.Need-enum-told-2 Inv-loop μ-loop
-enum-told-2 c = omega arith
-
 add-packed : tie.Need-add-packed Inv-loop μ-loop
 add-packed c = search packed-fits
-
-add-i : tie.Need-add-i Inv-loop μ-loop
-add-i c = omega arith
-
-loop-less : tie.Need-loop-less Inv-loop μ-loop
-loop-less c = omega arith
 
 loop-again : tie.Need-loop-again Inv-loop μ-loop
 loop-again c = search tried-more
@@ -63,17 +39,17 @@ owner-in-instance-spec =
     Inv-loop
     μ-loop
     loop-holds
-    mul-width
-    element-copy-out-width
-    mul-start
-    element-copy-out-start
+    (λ c. omega arith)
+    (λ c. omega arith)
+    (λ c. omega arith)
+    (λ c. omega arith)
     add-start
     owner-in-entry-requires
-    enum-told
+    (λ c. omega arith)
     returns
-    enum-told-2
+    (λ c. omega arith)
     add-packed
-    add-i
-    loop-less
+    (λ c. omega arith)
+    (λ c. omega arith)
     loop-again
     returns-2)

@@ -28,20 +28,8 @@ add-begin c = search begin-fits
 owner-in-instance-requires : tie.Need-owner-in-instance-requires Inv-loop μ-loop
 owner-in-instance-requires c κs = search instance-kept
 
-enum-told : tie.Need-enum-told Inv-loop μ-loop
-enum-told c = omega arith
-
 returns : tie.Need-returns Inv-loop μ-loop
 returns c = search lookup-stop
-
-enum-told-2 : tie.Need-enum-told-2 Inv-loop μ-loop
-enum-told-2 c = omega arith
-
-add-g : tie.Need-add-g Inv-loop μ-loop
-add-g c = omega arith
-
-loop-less : tie.Need-loop-less Inv-loop μ-loop
-loop-less c = omega arith
 
 loop-again : tie.Need-loop-again Inv-loop μ-loop
 loop-again c = lookup-more _ (search needs) _ _ (c .before .before .before .before .before .before .before .before .loop .inv) (c .before .before .before .before .before .before .before .loop-test .taken) _ (c .before .before .owner-in-instance .ensures) (search needs)
@@ -60,10 +48,10 @@ owner-of-spec =
     element-copy-out-begin
     add-begin
     owner-in-instance-requires
-    enum-told
+    (λ c. omega arith)
     returns
-    enum-told-2
-    add-g
-    loop-less
+    (λ c. omega arith)
+    (λ c. omega arith)
+    (λ c. omega arith)
     loop-again
     returns-2)

@@ -4,14 +4,13 @@ use Rattle.rounds.proofs.Making.{view-set-is}
 use Rattle.rounds.proofs.set_view.Statement.{statement}
 use Rattle.rounds.proofs.set_view.Tie as tie
 
-open-requires : tie.Need-open-requires
-open-requires c κs = search needs
-
-set-line-requires : tie.Need-set-line-requires
-set-line-requires c κs = search needs
-
 returns : tie.Need-returns
 returns c = search view-set-is
 
 pub set-view-spec : {M : Type 1} → statement M
-set-view-spec = tie.close (tie.spec open-requires set-line-requires returns)
+set-view-spec =
+    tie.close
+    (tie.spec
+    (λ c κs. search needs)
+    (λ c κs. search needs)
+    returns)

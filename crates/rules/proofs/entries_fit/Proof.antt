@@ -16,29 +16,8 @@ abbrev μ-loop : tie.MeasureT-loop
 loop-holds : tie.Need-loop-holds Inv-loop μ-loop
 loop-holds c = search (needs, passed-none)
 
-mul-entry-fits : tie.Need-mul-entry-fits Inv-loop μ-loop
-mul-entry-fits c = search needs
-
-element-copy-out-entry-fits : tie.Need-element-copy-out-entry-fits Inv-loop μ-loop
-element-copy-out-entry-fits c = search needs
-
-mul-entry-fits-2 : tie.Need-mul-entry-fits-2 Inv-loop μ-loop
-mul-entry-fits-2 c = search needs
-
-element-copy-out-entry-fits-2 : tie.Need-element-copy-out-entry-fits-2 Inv-loop μ-loop
-element-copy-out-entry-fits-2 c = search needs
-
-entry-fits-requires : tie.Need-entry-fits-requires Inv-loop μ-loop
-entry-fits-requires c κs = search needs
-
 returns : tie.Need-returns Inv-loop μ-loop
 returns c = search (passed-fails, entry-false)
-
-add-i : tie.Need-add-i Inv-loop μ-loop
-add-i c = search needs
-
-loop-less : tie.Need-loop-less Inv-loop μ-loop
-loop-less c = search needs
 
 loop-again : tie.Need-loop-again Inv-loop μ-loop
 loop-again c = search (passed-more, entry-true)
@@ -53,13 +32,13 @@ entries-fit-spec =
     Inv-loop
     μ-loop
     loop-holds
-    mul-entry-fits
-    element-copy-out-entry-fits
-    mul-entry-fits-2
-    element-copy-out-entry-fits-2
-    entry-fits-requires
+    (λ c. search needs)
+    (λ c. search needs)
+    (λ c. search needs)
+    (λ c. search needs)
+    (λ c κs. search needs)
     returns
-    add-i
-    loop-less
+    (λ c. search needs)
+    (λ c. search needs)
     loop-again
     returns-2)

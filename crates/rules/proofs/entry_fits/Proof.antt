@@ -6,9 +6,6 @@ use borrow.Author.Needs.{needs}
 use Rattle.rules.proofs.entry_fits.Statement.{statement}
 use Rattle.rules.proofs.entry_fits.Tie as tie
 
-width-allowed-requires : tie.Need-width-allowed-requires
-width-allowed-requires c κs = search needs
-
 returns : tie.Need-returns
 unfolding entryFits
 returns c = search checks depth 6
@@ -25,4 +22,10 @@ returns-3 c = search checks depth 6
 
 pub entry-fits-spec : {M : Type 1} → statement M
 entry-fits-spec =
-    tie.close (tie.spec width-allowed-requires returns returns-2 add-result returns-3)
+    tie.close
+    (tie.spec
+    (λ c κs. search needs)
+    returns
+    returns-2
+    add-result
+    returns-3)

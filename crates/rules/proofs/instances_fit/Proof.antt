@@ -16,26 +16,11 @@ abbrev μ-loop : tie.MeasureT-loop
 loop-holds : tie.Need-loop-holds Inv-loop μ-loop
 loop-holds c = search (needs, passed-none)
 
-mul-p : tie.Need-mul-p Inv-loop μ-loop
-mul-p c = search needs
-
-element-copy-out-p : tie.Need-element-copy-out-p Inv-loop μ-loop
-element-copy-out-p c = search needs
-
 returns : tie.Need-returns Inv-loop μ-loop
 returns c = search (passed-fails, reach-past)
 
-add-if2 : tie.Need-add-if2 Inv-loop μ-loop
-add-if2 c = search needs
-
 returns-2 : tie.Need-returns-2 Inv-loop μ-loop
 returns-2 c = search (passed-fails, reach-over)
-
-add-g : tie.Need-add-g Inv-loop μ-loop
-add-g c = search needs
-
-loop-less : tie.Need-loop-less Inv-loop μ-loop
-loop-less c = search needs
 
 loop-again : tie.Need-loop-again Inv-loop μ-loop
 loop-again c = search (needs, passed-more, reach-within)
@@ -50,12 +35,12 @@ instances-fit-spec =
     Inv-loop
     μ-loop
     loop-holds
-    mul-p
-    element-copy-out-p
+    (λ c. search needs)
+    (λ c. search needs)
     returns
-    add-if2
+    (λ c. search needs)
     returns-2
-    add-g
-    loop-less
+    (λ c. search needs)
+    (λ c. search needs)
     loop-again
     returns-3)

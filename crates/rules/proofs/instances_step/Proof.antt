@@ -13,29 +13,11 @@ Inv-loop instances origins a b k last g₀ g = OriginsKept k origins × (a ≤ 1
 abbrev μ-loop : tie.MeasureT-loop
 μ-loop instances origins a b k last g₀ g = k - g
 
-sub-last : tie.Need-sub-last Inv-loop μ-loop
-sub-last c = search needs
-
 loop-holds : tie.Need-loop-holds Inv-loop μ-loop
 loop-holds c = search (needs, passed-none)
 
-mul-end : tie.Need-mul-end Inv-loop μ-loop
-mul-end c = search needs
-
-element-copy-out-end : tie.Need-element-copy-out-end Inv-loop μ-loop
-element-copy-out-end c = search needs
-
 add-end : tie.Need-add-end Inv-loop μ-loop
 add-end c = search step-fits
-
-add-next : tie.Need-add-next Inv-loop μ-loop
-add-next c = search needs
-
-mul-begin : tie.Need-mul-begin Inv-loop μ-loop
-mul-begin c = search needs
-
-element-copy-out-begin : tie.Need-element-copy-out-begin Inv-loop μ-loop
-element-copy-out-begin c = search needs
 
 add-begin : tie.Need-add-begin Inv-loop μ-loop
 add-begin c = search next-fits
@@ -43,12 +25,6 @@ add-begin c = search next-fits
 returns : tie.Need-returns Inv-loop μ-loop
 unfolding originsStep
 returns c = search (passed-fails, step-false)
-
-add-g : tie.Need-add-g Inv-loop μ-loop
-add-g c = search needs
-
-loop-less : tie.Need-loop-less Inv-loop μ-loop
-loop-less c = search needs
 
 loop-again : tie.Need-loop-again Inv-loop μ-loop
 loop-again c = search (needs, passed-more, step-true)
@@ -63,17 +39,17 @@ instances-step-spec =
     (tie.spec
     Inv-loop
     μ-loop
-    sub-last
+    (λ c. search needs)
     loop-holds
-    mul-end
-    element-copy-out-end
+    (λ c. search needs)
+    (λ c. search needs)
     add-end
-    add-next
-    mul-begin
-    element-copy-out-begin
+    (λ c. search needs)
+    (λ c. search needs)
+    (λ c. search needs)
     add-begin
     returns
-    add-g
-    loop-less
+    (λ c. search needs)
+    (λ c. search needs)
     loop-again
     returns-2)

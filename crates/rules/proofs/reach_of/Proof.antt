@@ -16,29 +16,8 @@ abbrev μ-loop : tie.MeasureT-loop
 loop-holds : tie.Need-loop-holds Inv-loop μ-loop
 loop-holds c = search (needs, highest-none)
 
-mul-end : tie.Need-mul-end Inv-loop μ-loop
-mul-end c = search needs
-
-element-copy-out-end : tie.Need-element-copy-out-end Inv-loop μ-loop
-element-copy-out-end c = search needs
-
-mul-end-2 : tie.Need-mul-end-2 Inv-loop μ-loop
-mul-end-2 c = search needs
-
-element-copy-out-end-2 : tie.Need-element-copy-out-end-2 Inv-loop μ-loop
-element-copy-out-end-2 c = search needs
-
 add-end : tie.Need-add-end Inv-loop μ-loop
 add-end c = search end-fits
-
-larger-requires : tie.Need-larger-requires Inv-loop μ-loop
-larger-requires c κs = search needs
-
-add-i : tie.Need-add-i Inv-loop μ-loop
-add-i c = search needs
-
-loop-less : tie.Need-loop-less Inv-loop μ-loop
-loop-less c = search needs
 
 loop-again : tie.Need-loop-again Inv-loop μ-loop
 loop-again c = search (needs, highest-more)
@@ -53,13 +32,13 @@ reach-of-spec =
     Inv-loop
     μ-loop
     loop-holds
-    mul-end
-    element-copy-out-end
-    mul-end-2
-    element-copy-out-end-2
+    (λ c. search needs)
+    (λ c. search needs)
+    (λ c. search needs)
+    (λ c. search needs)
     add-end
-    larger-requires
-    add-i
-    loop-less
+    (λ c κs. search needs)
+    (λ c. search needs)
+    (λ c. search needs)
     loop-again
     returns)

@@ -6,11 +6,12 @@ use mir.Syntax.{w64}
 use Rattle.view.proofs.to_offset.Statement.{statement}
 use Rattle.view.proofs.to_offset.Tie as tie
 
-cast-t2 : tie.Need-cast-t2
-cast-t2 c = search needs
-
 returns : tie.Need-returns
 returns c = toZ-pos w64 (omega arith)
 
 pub to-offset-spec : {M : Type 1} → statement M
-to-offset-spec = tie.close (tie.spec cast-t2 returns)
+to-offset-spec =
+    tie.close
+    (tie.spec
+    (λ c. search needs)
+    returns)

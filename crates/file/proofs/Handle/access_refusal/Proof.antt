@@ -4,12 +4,6 @@ use borrow.Author.Needs.{needs}
 use Rattle.file.proofs.Handle.access_refusal.Statement.{statement}
 use Rattle.file.proofs.Handle.access_refusal.Tie as tie
 
-file-kept-requires : tie.Need-file-kept-requires
-file-kept-requires c κs = search needs
-
-access-allowed-requires : tie.Need-access-allowed-requires
-access-allowed-requires c κs = search needs
-
 returns : tie.Need-returns
 returns c = search accessing
 
@@ -35,8 +29,8 @@ pub access-refusal-spec : {M : Type 1} → statement M
 access-refusal-spec =
     tie.close
     (tie.spec
-    file-kept-requires
-    access-allowed-requires
+    (λ c κs. search needs)
+    (λ c κs. search needs)
     returns
     returns-2
     returns-3

@@ -4,9 +4,6 @@ use borrow.Author.Needs.{needs}
 use Rattle.file.proofs.Handle.end.Statement.{statement}
 use Rattle.file.proofs.Handle.end.Tie as tie
 
-file-kept-requires : tie.Need-file-kept-requires
-file-kept-requires c κs = search needs
-
 returns : tie.Need-returns
 returns c = search answering
 
@@ -17,4 +14,10 @@ returns-2 : tie.Need-returns-2
 returns-2 c = search answering
 
 pub end-spec : {M : Type 1} → statement M
-end-spec = tie.close (tie.spec file-kept-requires returns end-of-requires returns-2)
+end-spec =
+    tie.close
+    (tie.spec
+    (λ c κs. search needs)
+    returns
+    end-of-requires
+    returns-2)

@@ -4,9 +4,6 @@ use borrow.Author.Needs.{needs}
 use Rattle.file.proofs.Handle.file_kept.Statement.{statement}
 use Rattle.file.proofs.Handle.file_kept.Tie as tie
 
-limits-kept-requires : tie.Need-limits-kept-requires
-limits-kept-requires c κs = search needs
-
 returns : tie.Need-returns
 returns c = search keeping
 
@@ -16,13 +13,16 @@ returns-2 c = search keeping
 returns-3 : tie.Need-returns-3
 returns-3 c = search keeping
 
-parts-keep-requires : tie.Need-parts-keep-requires
-parts-keep-requires c κs = search needs
-
 returns-4 : tie.Need-returns-4
 returns-4 c = search keeping
 
 pub file-kept-spec : {M : Type 1} → statement M
 file-kept-spec =
     tie.close
-    (tie.spec limits-kept-requires returns returns-2 returns-3 parts-keep-requires returns-4)
+    (tie.spec
+    (λ c κs. search needs)
+    returns
+    returns-2
+    returns-3
+    (λ c κs. search needs)
+    returns-4)

@@ -4,11 +4,12 @@ use borrow.Author.Needs.{needs}
 use Rattle.file.proofs.Handle.fresh.Statement.{statement}
 use Rattle.file.proofs.Handle.fresh.Tie as tie
 
-linear-requires : tie.Need-linear-requires
-linear-requires c κs = search needs
-
 returns : tie.Need-returns
 returns c = search (fresh-is)
 
 pub fresh-spec : {M : Type 1} → statement M
-fresh-spec = tie.close (tie.spec linear-requires returns)
+fresh-spec =
+    tie.close
+    (tie.spec
+    (λ c κs. search needs)
+    returns)

@@ -4,9 +4,6 @@ use Rattle.file.proofs.Returning.{give-kept, give-ready, gave-none, gav
 use Rattle.file.proofs.Handle.give_back.Statement.{statement}
 use Rattle.file.proofs.Handle.give_back.Tie as tie
 
-give-back-refusal-requires : tie.Need-give-back-refusal-requires
-give-back-refusal-requires c κs = search needs
-
 given-answer-requires : tie.Need-given-answer-requires
 given-answer-requires c κs = search give-kept
 
@@ -16,18 +13,6 @@ returns c = search gave-none
 give-back-requires : tie.Need-give-back-requires
 give-back-requires c κs = search give-ready
 
-same-length : tie.Need-same-length
-same-length c = search needs
-
-same-length-2 : tie.Need-same-length-2
-same-length-2 c = search needs
-
-same-length-3 : tie.Need-same-length-3
-same-length-3 c = search needs
-
-same-length-4 : tie.Need-same-length-4
-same-length-4 c = search needs
-
 returns-2 : tie.Need-returns-2
 returns-2 c = search gave
 
@@ -35,12 +20,12 @@ pub give-back-spec : {M : Type 1} → statement M
 give-back-spec =
     tie.close
     (tie.spec
-    give-back-refusal-requires
+    (λ c κs. search needs)
     given-answer-requires
     returns
     give-back-requires
-    same-length
-    same-length-2
-    same-length-3
-    same-length-4
+    (λ c. search needs)
+    (λ c. search needs)
+    (λ c. search needs)
+    (λ c. search needs)
     returns-2)

@@ -4,9 +4,6 @@ use borrow.Author.Needs.{needs}
 use Rattle.file.proofs.Handle.give_back_refusal.Statement.{statement}
 use Rattle.file.proofs.Handle.give_back_refusal.Tie as tie
 
-kept-requires : tie.Need-kept-requires
-kept-requires c κs = search needs
-
 returns : tie.Need-returns
 returns c = search shortness
 
@@ -31,4 +28,12 @@ returns-6 c = search shortness
 pub give-back-refusal-spec : {M : Type 1} → statement M
 give-back-refusal-spec =
     tie.close
-    (tie.spec kept-requires returns mul-all returns-2 returns-3 returns-4 returns-5 returns-6)
+    (tie.spec
+    (λ c κs. search needs)
+    returns
+    mul-all
+    returns-2
+    returns-3
+    returns-4
+    returns-5
+    returns-6)

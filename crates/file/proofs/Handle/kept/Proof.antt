@@ -4,17 +4,17 @@ use borrow.Author.Needs.{needs}
 use Rattle.file.proofs.Handle.kept.Statement.{statement}
 use Rattle.file.proofs.Handle.kept.Tie as tie
 
-limits-kept-requires : tie.Need-limits-kept-requires
-limits-kept-requires c κs = search needs
-
 returns : tie.Need-returns
 returns c = search keeping
-
-parts-keep-requires : tie.Need-parts-keep-requires
-parts-keep-requires c κs = search needs
 
 returns-2 : tie.Need-returns-2
 returns-2 c = search keeping
 
 pub kept-spec : {M : Type 1} → statement M
-kept-spec = tie.close (tie.spec limits-kept-requires returns parts-keep-requires returns-2)
+kept-spec =
+    tie.close
+    (tie.spec
+    (λ c κs. search needs)
+    returns
+    (λ c κs. search needs)
+    returns-2)

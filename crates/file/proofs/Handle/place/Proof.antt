@@ -5,14 +5,8 @@ use borrow.Author.Needs.{needs}
 use Rattle.file.proofs.Handle.place.Statement.{statement}
 use Rattle.file.proofs.Handle.place.Tie as tie
 
-kept-requires : tie.Need-kept-requires
-kept-requires c κs = search needs
-
 returns : tie.Need-returns
 returns c = search answering
-
-offset-allowed-requires : tie.Need-offset-allowed-requires
-offset-allowed-requires c κs = search needs
 
 returns-2 : tie.Need-returns-2
 returns-2 c = search answering
@@ -26,4 +20,10 @@ returns-3 c = search answering
 pub place-spec : {M : Type 1} → statement M
 place-spec =
     tie.close
-    (tie.spec kept-requires returns offset-allowed-requires returns-2 place-of-requires returns-3)
+    (tie.spec
+    (λ c κs. search needs)
+    returns
+    (λ c κs. search needs)
+    returns-2
+    place-of-requires
+    returns-3)

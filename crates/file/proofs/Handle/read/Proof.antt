@@ -4,23 +4,11 @@ use borrow.Author.Needs.{needs}
 use Rattle.file.proofs.Handle.read.Statement.{statement}
 use Rattle.file.proofs.Handle.read.Tie as tie
 
-start-requires : tie.Need-start-requires
-start-requires c κs = search needs
-
-read-at-requires : tie.Need-read-at-requires
-read-at-requires c κs = search needs
-
-same-length : tie.Need-same-length
-same-length c = search needs
-
 returns : tie.Need-returns
 returns c = search nexting
 
 add-self : tie.Need-add-self
 add-self c = search nexting
-
-same-length-2 : tie.Need-same-length-2
-same-length-2 c = search needs
 
 returns-2 : tie.Need-returns-2
 returns-2 c = search nexting
@@ -28,4 +16,11 @@ returns-2 c = search nexting
 pub read-spec : {M : Type 1} → statement M
 read-spec =
     tie.close
-    (tie.spec start-requires read-at-requires same-length returns add-self same-length-2 returns-2)
+    (tie.spec
+    (λ c κs. search needs)
+    (λ c κs. search needs)
+    (λ c. search needs)
+    returns
+    add-self
+    (λ c. search needs)
+    returns-2)

@@ -4,14 +4,8 @@ use borrow.Author.Needs.{needs}
 use Rattle.file.proofs.Handle.reverse.Statement.{statement}
 use Rattle.file.proofs.Handle.reverse.Tie as tie
 
-kept-requires : tie.Need-kept-requires
-kept-requires c κs = search needs
-
 returns : tie.Need-returns
 returns c = search reversing
-
-writes-requires : tie.Need-writes-requires
-writes-requires c κs = search needs
 
 returns-2 : tie.Need-returns-2
 returns-2 c = reverse-mode _ _ _ (c .before .before .before .kept .ensures) (c .before .before .if1 .left) _ (c .before .writes .ensures) (c .if2 .taken)
@@ -28,4 +22,10 @@ returns-3 c =
 pub reverse-spec : {M : Type 1} → statement M
 reverse-spec =
     tie.close
-    (tie.spec kept-requires returns writes-requires returns-2 owner-of-requires returns-3)
+    (tie.spec
+    (λ c κs. search needs)
+    returns
+    (λ c κs. search needs)
+    returns-2
+    owner-of-requires
+    returns-3)

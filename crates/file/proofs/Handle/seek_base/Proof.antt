@@ -10,14 +10,15 @@ returns c = search basing
 returns-2 : tie.Need-returns-2
 returns-2 c = search basing
 
-end-of-requires : tie.Need-end-of-requires
-end-of-requires c κs = search needs
-
-natural-requires : tie.Need-natural-requires
-natural-requires c κs = search needs
-
 returns-3 : tie.Need-returns-3
 returns-3 c = search basing
 
 pub seek-base-spec : {M : Type 1} → statement M
-seek-base-spec = tie.close (tie.spec returns returns-2 end-of-requires natural-requires returns-3)
+seek-base-spec =
+    tie.close
+    (tie.spec
+    returns
+    returns-2
+    (λ c κs. search needs)
+    (λ c κs. search needs)
+    returns-3)

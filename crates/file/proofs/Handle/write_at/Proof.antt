@@ -4,20 +4,11 @@ use borrow.Author.Needs.{needs}
 use Rattle.file.proofs.Handle.write_at.Statement.{statement}
 use Rattle.file.proofs.Handle.write_at.Tie as tie
 
-write-judged-requires : tie.Need-write-judged-requires
-write-judged-requires c κs = search needs
-
-refused-requires : tie.Need-refused-requires
-refused-requires c κs = search needs
-
 returns : tie.Need-returns
 returns c = search writing
 
 write-requires : tie.Need-write-requires
 write-requires c κs = search writing
-
-same-length : tie.Need-same-length
-same-length c = search needs
 
 returns-2 : tie.Need-returns-2
 returns-2 c = search writing
@@ -25,4 +16,10 @@ returns-2 c = search writing
 pub write-at-spec : {M : Type 1} → statement M
 write-at-spec =
     tie.close
-    (tie.spec write-judged-requires refused-requires returns write-requires same-length returns-2)
+    (tie.spec
+    (λ c κs. search needs)
+    (λ c κs. search needs)
+    returns
+    write-requires
+    (λ c. search needs)
+    returns-2)
