@@ -26,7 +26,7 @@ use Rattle.file.specs.declared.TypeShape.{TypeShape}
 use Rattle.file.specs.declared.ViewGiven.{ViewGiven}
 use Rattle.file.specs.Handles.{viewOf, handleKept, withView}
 use Rattle.file.specs.Refusals.{setViewRefusal, giveBackRefusal}
-use Rattle.file.specs.Answers.{setViewAnswer, giveBackAnswer, shapeGiven, widthsGiven, displacementsGiven, GaveBack}
+use Rattle.file.specs.Answers.{setViewAnswer, givenAs, giveBackAnswer, shapeGiven, widthsGiven, displacementsGiven, GaveBack}
 use Rattle.given.specs.Giving.{Ready}
 use Rattle.file.proofs.Returning.{give-ready}
 use Rattle.claims.specs.Given.{TypeSame, ViewSame, Roomy, GivenAsSet}
@@ -93,7 +93,7 @@ module _ (t : PaperType) (allowed : entriesAllowed t ≡ true) (even : paired t 
 
 module _ (h : Handle) (representation : List ℕ) (v : PaperView) (s : Opened) (e : s ≡ setViewAnswer h representation v) (ew ew' : List ℕ) (ed ed' : List ℤ) (fw fw' : List ℕ) (fd fd' : List ℤ) (g : ViewGiven) (b : GaveBack (s .handle) ew ew' ed ed' fw fw' fd fd' g) where
   refusal-is : g .refusal ≡ giveBackRefusal (s .handle) (length ew) (length ed) (length fw) (length fd)
-  unfolding giveBackAnswer
+  unfolding giveBackAnswer givenAs
   refusal-is = ap (λ x. x .refusal) (b .answer)
 
   module _ (z : s .refusal ≡ 0) where
@@ -115,15 +115,15 @@ module _ (h : Handle) (representation : List ℕ) (v : PaperView) (s : Opened) (
       ready = rw is at (give-ready (s .handle) ew ed fw fd (g .refusal) refusal-is y)
 
       start-is : g .displacement ≡ whole (v .displacement)
-      unfolding giveBackAnswer
+      unfolding giveBackAnswer givenAs
       start-is = ap (λ x. x .displacement) (b .answer) ∙ granted-yes _ _ 0 (sym refusal-is ∙ y) ∙ ap (λ x. whole (x .displacement)) is
 
       etype-shape : g .etype ≡ shapeGiven (g .refusal) (v .etype)
-      unfolding giveBackAnswer
+      unfolding giveBackAnswer givenAs
       etype-shape = ap (λ x. x .etype) (b .answer) ∙ (λ i. shapeGiven (sym refusal-is i) (is i .etype))
 
       filetype-shape : g .filetype ≡ shapeGiven (g .refusal) (v .filetype)
-      unfolding giveBackAnswer
+      unfolding giveBackAnswer givenAs
       filetype-shape = ap (λ x. x .filetype) (b .answer) ∙ (λ i. shapeGiven (sym refusal-is i) (is i .filetype))
 
       view-same : ViewSame v ew' ed' fw' fd' g

@@ -18,7 +18,7 @@ use Rattle.view.specs.declared.View.{View}
 use Rattle.view.specs.Types.{paper, entries, extentOf, whole}
 use Rattle.view.specs.Rules.{Kept}
 use Rattle.view.proofs.Paper.{paper-entries, paper-file-entries, paper-extent, paper-file-extent, paper-start}
-use Rattle.locate.proofs.Placing.{record-few}
+use Rattle.view.proofs.Held.{record-few}
 use Rattle.given.specs.Giving.{Ready, GivenBack}
 use Rattle.mover.proofs.Etypes.{entries-kept}
 use Rattle.file.specs.declared.Handle.{Handle}
@@ -26,8 +26,7 @@ use Rattle.file.specs.declared.TypeShape.{TypeShape}
 use Rattle.file.specs.declared.ViewGiven.{ViewGiven}
 use Rattle.file.specs.Handles.{viewOf, handleKept}
 use Rattle.file.specs.Refusals.{giveBackRefusal}
-use Rattle.file.specs.Answers.{giveBackAnswer, shapeGiven, widthsGiven, displacementsGiven, GaveBack}
-use Rattle.file.specs.Parts.{givenAs}
+use Rattle.file.specs.Answers.{givenAs, giveBackAnswer, shapeGiven, widthsGiven, displacementsGiven, GaveBack}
 use Rattle.file.proofs.Checking.{handle-view, judged-view}
 
 -- ---- the refusals
@@ -125,7 +124,7 @@ module _ (h : Handle) (ew : List ℕ) (ed : List ℤ) (fw : List ℕ) (fd : List
 
   module _ (r : ViewGiven) (q : r ≡ givenAs n h) where
     answered : r ≡ giveBackAnswer h (length ew) (length ed) (length fw) (length fd)
-    unfolding giveBackAnswer givenAs
+    unfolding giveBackAnswer
     answered = q ∙ ap (λ (z : ℕ). givenAs z h) e
 
     number : r .refusal ≡ n

@@ -46,18 +46,20 @@ setViewAnswer h representation v =
 unfoldable pub shapeGiven : ℕ → PaperType → TypeShape
 shapeGiven n t = record { entries = granted n (entries t) 0; extent = granted n (extentOf t) 0 }
 
+-- the answer with refusal number n
+unfoldable pub givenAs : ℕ → Handle → ViewGiven
+givenAs n h = record {
+  refusal = n;
+  count = 0;
+  handle = h;
+  displacement = granted n (whole (viewOf h .displacement)) 0;
+  etype = shapeGiven n (viewOf h .etype);
+  filetype = shapeGiven n (viewOf h .filetype);
+}
+
 -- by the lengths of the four lent lists
 unfoldable pub giveBackAnswer : Handle → ℕ → ℕ → ℕ → ℕ → ViewGiven
-giveBackAnswer h ew ed fw fd =
-    let n = giveBackRefusal h ew ed fw fd in
-    record {
-      refusal = n;
-      count = 0;
-      handle = h;
-      displacement = granted n (whole (viewOf h .displacement)) 0;
-      etype = shapeGiven n (viewOf h .etype);
-      filetype = shapeGiven n (viewOf h .filetype);
-    }
+giveBackAnswer h ew ed fw fd = givenAs (giveBackRefusal h ew ed fw fd) h
 
 -- a lent list of widths, and one of displacements, after a call with refusal number n; what lies after the used places stays
 unfoldable pub widthsGiven : ℕ → PaperType → List ℕ → List ℕ

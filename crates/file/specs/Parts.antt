@@ -4,7 +4,7 @@ use mathlib.Core.Bool.{Bool, cond}
 use mathlib.Core.Path.{_≡_}
 use lib.Dec.{eqb}
 use lib.IntN.{ℤ}
-use Rattle.laws.specs.Checks.{check, also, granted}
+use Rattle.laws.specs.Checks.{check, also}
 use Rattle.view.specs.Limits.{pointerAllowed}
 use Rattle.view.specs.Types.{whole}
 use Rattle.view.specs.Rules.{modeAllowed}
@@ -13,12 +13,10 @@ use Rattle.mover.specs.Moves.{writeEnd}
 use Rattle.file.specs.declared.Handle.{Handle}
 use Rattle.file.specs.declared.FileRecord.{FileRecord}
 use Rattle.file.specs.declared.Opened.{Opened}
-use Rattle.file.specs.declared.ViewGiven.{ViewGiven}
 use Rattle.file.specs.declared.Moved.{Moved}
 use Rattle.file.specs.declared.Judgement.{Judgement}
 use Rattle.file.specs.Handles.{viewOf, fileKept}
 use Rattle.file.specs.Refusals.{accessRefusal, writeRefusal}
-use Rattle.file.specs.Answers.{shapeGiven}
 
 -- a pointer and a mode within their limits
 unfoldable pub limitsKept : ℕ → ℕ → Bool
@@ -27,17 +25,6 @@ limitsKept mode pointer = also (pointerAllowed pointer) (modeAllowed mode)
 -- the answer of an open or a set
 abbrev pub openedAs : ℕ → Handle → Opened
 openedAs n h = record { refusal = n; count = 0; handle = h }
-
--- the answer of giving back with refusal number n
-unfoldable pub givenAs : ℕ → Handle → ViewGiven
-givenAs n h = record {
-  refusal = n;
-  count = 0;
-  handle = h;
-  displacement = granted n (whole (viewOf h .displacement)) 0;
-  etype = shapeGiven n (viewOf h .etype);
-  filetype = shapeGiven n (viewOf h .filetype);
-}
 
 -- a refused call that was given a file
 abbrev pub refusedMove : ℕ → Handle → FileRecord → Moved

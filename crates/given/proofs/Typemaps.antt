@@ -13,32 +13,27 @@ use Rattle.view.specs.declared.View.{View}
 use Rattle.view.specs.Types.{paper, entries, widthAt, displacementAt}
 use Rattle.view.specs.Rules.{Kept}
 use Rattle.view.proofs.Paper.{paper-entries, paper-file-entries, paper-width, paper-displacement, paper-file-width, paper-file-displacement, paper-instances}
-use Rattle.view.proofs.Accepted.{Facts, facts, instances-few}
+use Rattle.view.proofs.Accepted.{Facts, facts}
+use Rattle.view.proofs.Held.{some-entry, few-entries, record-entry, record-few}
 use Rattle.given.specs.Parts.{groupWidth, groupDisplacement, Room, Signed}
 
 module _ (v : View) (kept : Kept (paper v)) where
   known : Facts (paper v)
   known = facts (paper v) kept
 
-  some-entry : 0 < v .etype .entries
-  some-entry = omega (arith, paper-entries v, known .some)
-
-  few-entries : v .etype .entries ≤ 8
-  few-entries = omega (arith, paper-entries v, known .few)
-
   -- ---- what the loops ask
 
   pub etype-room : (len : ℕ) → entries (paper v .etype) ≤ len → Room (v .etype .entries) 1 len
-  etype-room len l = record { some = some-entry; few = few-entries; groups = omega arith; room = omega (arith, paper-entries v, one-mul (v .etype .entries)) }
+  etype-room len l = record { some = some-entry v kept; few = few-entries v kept; groups = omega arith; room = omega (arith, paper-entries v, one-mul (v .etype .entries)) }
 
   pub filetype-room : (len : ℕ) → entries (paper v .filetype) ≤ len → Room (v .etype .entries) (v .filetype .instances) len
-  filetype-room len l = record { some = some-entry; few = few-entries; groups = omega (arith, paper-instances v some-entry, instances-few (paper v) known); room = omega (arith, paper-file-entries v) }
+  filetype-room len l = record { some = some-entry v kept; few = few-entries v kept; groups = record-few v kept; room = omega (arith, paper-file-entries v) }
 
   pub etype-signed : Signed (replicate 64 0) (v .etype .displacements) (v .etype .entries) 1
   etype-signed = record {
     small = λ g e lg le.
         let z : g ≡ 0 = omega arith in
-        rw z (omega (arith, paper-displacement v e le, known .ends e (omega (arith, paper-entries v))));
+        rw z (omega (arith, record-entry v kept e le));
   }
 
   pub filetype-signed : Signed (v .filetype .origins) (v .etype .displacements) (v .etype .entries) (v .filetype .instances)

@@ -26,7 +26,7 @@ use Rattle.view.specs.End.{endFrom, endOfFile}
 use Rattle.locate.specs.declared.Spot.{Spot}
 use Rattle.locate.specs.Spots.{SpotAt, nextSpot, SpotKept}
 use Rattle.view.proofs.Paper.{paper-entries, paper-instances, paper-origin, paper-place, paper-file-extent, paper-start}
-use Rattle.view.proofs.Accepted.{Facts, facts, instances-some, instances-few, origin-small}
+use Rattle.view.proofs.Held.{start-small, some-entry, record-some, record-few, record-extent, extent-small, record-origin}
 
 offset-small : (z : ℤ) → offsetAllowed z ≡ true → whole z ≤ 4294967295
 unfolding offsetAllowed whole
@@ -83,32 +83,8 @@ module _ (s : Spot) (k f : ℕ) where
 -- ---- what the record of a kept view holds
 
 module _ (v : View) (k : Kept (paper v)) where
-  kept : Facts (paper v)
-  kept = facts (paper v) k
-
-  some-entry : 0 < v .etype .entries
-  some-entry = omega (arith, paper-entries v, kept .some)
-
-  pub record-some : 0 < v .filetype .instances
-  record-some = omega (arith, paper-instances v some-entry, instances-some (paper v) kept)
-
-  pub record-few : v .filetype .instances ≤ 64
-  record-few = omega (arith, paper-instances v some-entry, instances-few (paper v) kept)
-
   pub origin-below : (i : ℕ) → i < v .filetype .instances → i < 64
-  origin-below i l = omega (arith, record-few)
-
-  pub record-extent : 0 < v .filetype .extent
-  record-extent = omega (arith, paper-file-extent v, kept .file-extent .0)
-
-  extent-small : v .filetype .extent ≤ 1048576
-  extent-small = omega (arith, paper-file-extent v, kept .file-extent .1)
-
-  start-small : v .displacement ≤ 1099511627776
-  start-small = omega (arith, paper-start v, kept .start)
-
-  record-origin : (i : ℕ) → i < v .filetype .instances → nth (v .filetype .origins) i < 1048576
-  record-origin i l = omega (arith, paper-origin v some-entry i l, origin-small (paper v) kept i (omega (arith, paper-instances v some-entry)))
+  origin-below i l = omega (arith, record-few v k)
 
   -- ---- the place of an offset
 
@@ -117,7 +93,7 @@ module _ (v : View) (k : Kept (paper v)) where
     tiles =
         let q = div-le-self (whole o) (v .filetype .instances) in
         let a : whole o / v .filetype .instances ≤ 4294967295 = omega (arith, offset-small o ok) in
-        mul-le-mul a extent-small
+        mul-le-mul a (extent-small v k)
 
     -- `at` is the offset as the machine reads it
     module _ (at : ℕ) (read : at ≡ whole (toZ w64 (ofZ w64 o))) where
@@ -128,12 +104,12 @@ module _ (v : View) (k : Kept (paper v)) where
       step-fits = rw e (record { fits = omega (arith, tiles) })
 
       pub tile-fits : Fits w64 (v .displacement + at / v .filetype .instances * v .filetype .extent)
-      tile-fits = rw e (record { fits = omega (arith, tiles, start-small) })
+      tile-fits = rw e (record { fits = omega (arith, tiles, (start-small v k)) })
 
       pub spot-made : SpotAt (paper v) (whole o) (record { tile = record { 0 = v .displacement + at / v .filetype .instances * v .filetype .extent }; instance = at % v .filetype .instances })
       spot-made = record {
-        tile = rw (e, paper-instances v some-entry, paper-start v, paper-file-extent v);
-        instance = rw (e, paper-instances v some-entry);
+        tile = rw (e, paper-instances v (some-entry v k), paper-start v, paper-file-extent v);
+        instance = rw (e, paper-instances v (some-entry v k));
       }
 
   -- ---- the spot of an offset
@@ -142,35 +118,35 @@ module _ (v : View) (k : Kept (paper v)) where
   tile-small x l =
       let q = div-le-self x (v .filetype .instances) in
       let a : x / v .filetype .instances ≤ 4294967295 = omega arith in
-      mul-le-mul a extent-small
+      mul-le-mul a (extent-small v k)
 
   module _ (x : ℕ) (s : Spot) (at : SpotAt (paper v) x s) where
     spot-tile : s .tile .0 ≡ v .displacement + x / v .filetype .instances * v .filetype .extent
-    spot-tile = rw (paper-instances v some-entry, paper-start v, paper-file-extent v) at (at .tile)
+    spot-tile = rw (paper-instances v (some-entry v k), paper-start v, paper-file-extent v) at (at .tile)
 
     spot-instance : s .instance ≡ x % v .filetype .instances
-    spot-instance = rw (paper-instances v some-entry) at (at .instance)
+    spot-instance = rw (paper-instances v (some-entry v k)) at (at .instance)
 
     instance-below : s .instance < v .filetype .instances
-    instance-below = rw spot-instance (mod-lt x {m = v .filetype .instances} record-some)
+    instance-below = rw spot-instance (mod-lt x {m = v .filetype .instances} (record-some v k))
 
     pub spot-held : s .instance < 64
-    spot-held = omega (arith, instance-below, record-few)
+    spot-held = omega (arith, instance-below, (record-few v k))
 
     -- where the etype at x begins
     pub spot-place : s .tile .0 + nth (v .filetype .origins) (s .instance) ≡ place (paper v) x
-    spot-place = rw (spot-tile, spot-instance) (sym (paper-place v some-entry record-some x))
+    spot-place = rw (spot-tile, spot-instance) (sym (paper-place v (some-entry v k) (record-some v k) x))
 
     pub spot-placed : (r : ℕ) → r ≡ s .tile .0 + nth (v .filetype .origins) (s .instance) → r ≡ place (paper v) x
     spot-placed r e = e ∙ spot-place
 
     module _ (l : x < 4294967296) where
       pub spot-step : s .tile .0 + v .filetype .extent < 18446744073709551616
-      spot-step = omega (arith, spot-tile, tile-small x l, start-small, extent-small)
+      spot-step = omega (arith, spot-tile, tile-small x l, (start-small v k), (extent-small v k))
 
       -- no etype begins past this
       pub spot-small : s .tile .0 + nth (v .filetype .origins) (s .instance) < 4505798650626048
-      spot-small = omega (arith, spot-tile, tile-small x l, start-small, record-origin (s .instance) instance-below)
+      spot-small = omega (arith, spot-tile, tile-small x l, (start-small v k), record-origin v k (s .instance) instance-below)
 
       pub spot-kept : SpotKept (v .filetype .origins) s
       spot-kept = record { held = spot-held; fits = omega (arith, spot-small) }
@@ -183,18 +159,18 @@ module _ (v : View) (k : Kept (paper v)) where
           let z = rw (lt-ltb (s .instance + 1) (v .filetype .instances) b) at q in
           let n = next-in (v .filetype .instances) x (omega (arith, spot-instance)) in
           record {
-            tile = rw (z, paper-instances v some-entry, paper-start v, paper-file-extent v, n .0) spot-tile;
-            instance = rw (z, paper-instances v some-entry, n .1) (omega (arith, spot-instance));
+            tile = rw (z, paper-instances v (some-entry v k), paper-start v, paper-file-extent v, n .0) spot-tile;
+            instance = rw (z, paper-instances v (some-entry v k), n .1) (omega (arith, spot-instance));
           }
 
       next-tile : v .filetype .instances ≤ s .instance + 1 → SpotAt (paper v) (x + 1) r
       unfolding nextSpot
       next-tile b =
           let z = rw (le-ltb (s .instance + 1) (v .filetype .instances) b) at q in
-          let n = next-over (v .filetype .instances) x record-some (omega (arith, spot-instance, instance-below)) in
+          let n = next-over (v .filetype .instances) x (record-some v k) (omega (arith, spot-instance, instance-below)) in
           record {
-            tile = rw (z, paper-instances v some-entry, paper-start v, paper-file-extent v, n .0, times-more (x / v .filetype .instances) (v .filetype .extent)) (omega (arith, spot-tile));
-            instance = rw (z, paper-instances v some-entry, n .1);
+            tile = rw (z, paper-instances v (some-entry v k), paper-start v, paper-file-extent v, n .0, times-more (x / v .filetype .instances) (v .filetype .extent)) (omega (arith, spot-tile));
+            instance = rw (z, paper-instances v (some-entry v k), n .1);
           }
 
       pub spot-next : SpotAt (paper v) (x + 1) r
@@ -203,13 +179,13 @@ module _ (v : View) (k : Kept (paper v)) where
   -- ---- end of file
 
   pub start-fits : (i : ℕ) → i < v .filetype .instances → Fits w64 (v .displacement + getD (v .filetype .origins) i 0)
-  start-fits i l = record { fits = omega (arith, record-origin i l, start-small) }
+  start-fits i l = record { fits = omega (arith, record-origin v k i l, (start-small v k)) }
 
   end-is : (size : ℕ) → greatest (endOn v size) (v .filetype .instances) ≡ endOfFile (paper v) size
   unfolding endOfFile endOn
   end-is size =
-      rw (paper-instances v some-entry, paper-start v, paper-file-extent v)
-      (greatest-same _ _ (v .filetype .instances) (λ i l. rw (paper-origin v some-entry i l)))
+      rw (paper-instances v (some-entry v k), paper-start v, paper-file-extent v)
+      (greatest-same _ _ (v .filetype .instances) (λ i l. rw (paper-origin v (some-entry v k) i l)))
 
   pub end-found : (size i e : ℕ) (z : ℤ) → Highest (endOn v size) i (v .filetype .instances) e → v .filetype .instances ≤ i → z ≡ pos e → z ≡ pos (endOfFile (paper v) size)
   end-found size i e z h l q = q ∙ ap pos (highest-end (endOn v size) i (v .filetype .instances) e h l ∙ end-is size)
@@ -217,7 +193,7 @@ module _ (v : View) (k : Kept (paper v)) where
   end-small : (size i : ℕ) → size ≤ 1099511627776 → i < v .filetype .instances → endOn v size i ≤ 70368744177729
   unfolding endOn endFrom
   end-small size i hs l = ⊎-elim
-      (λ q. rw (lt-ltb (v .displacement + nth (v .filetype .origins) i) size q) (omega (arith, before size (v .displacement + nth (v .filetype .origins) i) (v .filetype .extent) (v .filetype .instances) i hs record-few l, record-few)))
+      (λ q. rw (lt-ltb (v .displacement + nth (v .filetype .origins) i) size q) (omega (arith, before size (v .displacement + nth (v .filetype .origins) i) (v .filetype .extent) (v .filetype .instances) i hs (record-few v k) l, (record-few v k))))
       (λ q. rw (le-ltb (v .displacement + nth (v .filetype .origins) i) size q) (omega arith))
       (lt-or-le (v .displacement + nth (v .filetype .origins) i) size)
 

@@ -4,16 +4,15 @@ use mathlib.Core.Bool.{Bool, true, false}
 use mathlib.Core.Path.{_≡_, refl, sym, ap, _∙_}
 use native.Mathlib.Nat.{mul-le-mul}
 use native.Mathlib.Omega.{arith}
-use Rattle.laws.specs.Lists.{nth}
 use Rattle.laws.specs.Search.{total}
 use Rattle.laws.proofs.Sums.{greatest-least, greatest-above, greatest-one, total-same, total-most}
 use Rattle.view.specs.declared.View.{View}
-use Rattle.view.specs.Limits.{widthAllowed}
 use Rattle.view.specs.Types.{paper, entries, widthAt, displacementAt, whole}
 use Rattle.view.specs.Rules.{Kept}
 use Rattle.view.specs.Places.{place, packedBefore, entryOf, dataAt, byteOf, dataSize}
 use Rattle.view.proofs.Paper.{paper-entries, paper-width, paper-displacement}
 use Rattle.view.proofs.Accepted.{Facts, facts}
+use Rattle.view.proofs.Held.{some-entry, few-entries, record-entry}
 use Rattle.view.proofs.Packing.{packed-part, entry-below, entry-ends, entry-begins, data-run}
 use Rattle.rules.specs.Parts.{EntriesKept, entryEnd, reachOf}
 use Rattle.copier.specs.Parts.{typeOf, sizeOf, placeIn}
@@ -38,13 +37,10 @@ module _ (v : View) (k : Kept (paper v)) where
 
   pub entries-kept : EntriesKept (v .etype .entries) (v .etype .widths) (v .etype .displacements)
   entries-kept = record {
-    some = omega (arith, paper-entries v, kept .some);
-    few = omega (arith, paper-entries v, kept .few);
-    ends = λ i l. omega (arith, entry-end i l, kept .ends i (omega (arith, paper-entries v)));
+    some = some-entry v k;
+    few = few-entries v k;
+    ends = record-entry v k;
   }
-
-  pub entries-allowed : (i : ℕ) → i < v .etype .entries → widthAllowed (nth (v .etype .widths) i) ≡ true
-  entries-allowed i l = ap widthAllowed (sym (paper-width v i l)) ∙ kept .allowed i (omega (arith, paper-entries v))
 
   pub data-is : sizeOf (v .etype .entries) (v .etype .widths) ≡ dataSize (paper v)
   unfolding sizeOf dataSize packedBefore

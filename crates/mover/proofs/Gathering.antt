@@ -18,13 +18,14 @@ use Rattle.laws.proofs.Quotients.{times-more}
 use Rattle.view.specs.declared.View.{View}
 use Rattle.view.specs.Types.{PaperView, paper, whole}
 use Rattle.view.specs.Places.{place, byteOf, dataSize}
+use Rattle.view.proofs.Held.{record-allowed}
 use Rattle.rules.specs.Parts.{reachOf}
 use Rattle.locate.specs.declared.Spot.{Spot}
 use Rattle.locate.specs.Spots.{SpotAt, nextSpot}
 use Rattle.copier.specs.Parts.{sizeOf, byteIn, placeIn, Lies}
 use Rattle.mover.specs.Moves.{fileByte, inFile, moved, readInto}
 use Rattle.mover.specs.Parts.{Movable, ReadDone}
-use Rattle.mover.proofs.Etypes.{entries-kept, entries-allowed, data-is, place-in, in-file-yes, in-file-no}
+use Rattle.mover.proofs.Etypes.{entries-kept, data-is, place-in, in-file-yes, in-file-no}
 use Rattle.mover.proofs.Walking.{file-byte-run, Walking, walk-fits, walk-kept, walk-held, walk-step, walk-more, walk-place, walk-end-fits, walk-size, walk-room, move-offset, first-is, last-fits, walk-begun}
 
 -- etype o + t lies in the file
@@ -116,7 +117,7 @@ module _ (v : View) (file buf₀ : List ℕ) (size o c S r : ℕ) (buf : List �
       pub gather-lies : Lies (v .etype .entries) (v .etype .widths) (v .etype .displacements) p (length file) (length (take (length buf - (x - o) * S) (drop ((x - o) * S) buf)))
       gather-lies = record {
         kept = entries-kept v (g .walk .kept);
-        allowed = entries-allowed v (g .walk .kept);
+        allowed = record-allowed v (g .walk .kept);
         inside = omega (arith, g .short, g .reaches);
         fits = rw (← g .sized, tail-lent ((x - o) * S) buf, length-drop ((x - o) * S) buf) (omega (arith, runs));
       }

@@ -20,7 +20,7 @@ use Rattle.view.specs.Rules.{Kept}
 use Rattle.view.specs.Places.{packedBefore}
 use Rattle.view.specs.Owners.{entryStart, offsetIn, indexIn, hits, hitEntry, ownerOf}
 use Rattle.view.proofs.Paper.{paper-entries, paper-file-entries, paper-width, paper-displacement, paper-file-width, paper-file-displacement, paper-file-extent, paper-start, paper-instances, paper-origin}
-use Rattle.view.proofs.Accepted.{Facts, facts, instances-few, origin-small}
+use Rattle.view.proofs.Held.{start-small, some-entry, few-entries, record-entry, record-few, record-extent, record-origin}
 use Rattle.reverse.specs.Parts.{firstOwner, entryOwner, ownerAt, instanceOwner, InstanceKept}
 use Rattle.reverse.proofs.Firsts.{first-runs, first-same, first-searched, Missed, missed-more, missed-stop, missed-end}
 
@@ -29,39 +29,24 @@ unfoldable pub ownerFrom : View → ℕ → ℕ → Owner
 ownerFrom v b g = instanceOwner (v .etype .entries) (v .etype .widths) (v .etype .displacements) (v .filetype .extent) (v .filetype .instances) g (v .displacement + nth (v .filetype .origins) g) b
 
 module _ (v : View) (k : Kept (paper v)) where
-  kept : Facts (paper v)
-  kept = facts (paper v) k
-
-  some-entry : 0 < v .etype .entries
-  some-entry = omega (arith, paper-entries v, kept .some)
-
-  few-instances : v .filetype .instances ≤ 64
-  few-instances = omega (arith, paper-instances v some-entry, instances-few (paper v) kept)
-
-  record-origin : (g : ℕ) → g < v .filetype .instances → nth (v .filetype .origins) g < 1048576
-  record-origin g l = omega (arith, paper-origin v some-entry g l, origin-small (paper v) kept g (omega (arith, paper-instances v some-entry)))
-
-  record-entry : (i : ℕ) → i < v .etype .entries → nth (v .etype .displacements) i + nth (v .etype .widths) i ≤ 1048576
-  record-entry i l = omega (arith, paper-displacement v i l, paper-width v i l, kept .ends i (omega (arith, paper-entries v)))
-
   -- ---- what the loop over instances needs
 
   module _ (g : ℕ) (l : g < v .filetype .instances) where
     pub origin-held : g < 64
-    origin-held = omega (arith, few-instances)
+    origin-held = omega (arith, (record-few v k))
 
     pub origin-scaled : Fits w64 (g * 8)
-    origin-scaled = record { fits = omega (arith, few-instances) }
+    origin-scaled = record { fits = omega (arith, (record-few v k)) }
 
     pub begin-fits : Fits w64 (v .displacement + getD (v .filetype .origins) g 0)
-    begin-fits = record { fits = omega (arith, record-origin g l, paper-start v, kept .start) }
+    begin-fits = record { fits = omega (arith, record-origin v k g l, start-small v k) }
 
     pub instance-kept : InstanceKept (v .etype .entries) (v .etype .widths) (v .etype .displacements) (v .filetype .extent) (v .filetype .instances) g (v .displacement + getD (v .filetype .origins) g 0)
     instance-kept = record {
-      tile = record { extent = omega (arith, paper-file-extent v, kept .file-extent .0); instance = l; few = few-instances };
-      begins = omega (arith, record-origin g l, paper-start v, kept .start);
-      entries-few = omega (arith, paper-entries v, kept .few);
-      ends = record-entry;
+      tile = record { extent = record-extent v k; instance = l; few = record-few v k };
+      begins = omega (arith, record-origin v k g l, start-small v k);
+      entries-few = few-entries v k;
+      ends = record-entry v k;
     }
 
   -- ---- the answers of the entries
@@ -98,7 +83,7 @@ module _ (v : View) (k : Kept (paper v)) where
 
     entry-same : fileOwner b (g * v .etype .entries + i) ≡ ownerAt (v .etype .widths) (v .etype .displacements) (v .filetype .extent) (v .filetype .instances) g (v .displacement + nth (v .filetype .origins) g) b i
     unfolding fileOwner hits offsetIn indexIn ownerAt entryOwner
-    entry-same = rw (start-is, width-is, paper-file-extent v, paper-instances v some-entry, paper-entries v, group, entry, packed-is)
+    entry-same = rw (start-is, width-is, paper-file-extent v, paper-instances v (some-entry v k), paper-entries v, group, entry, packed-is)
 
   pub owner-is : (b : ℕ) → firstOwner (ownerFrom v b) (v .filetype .instances) ≡ ownerOf (paper v) b
   unfolding ownerFrom instanceOwner

@@ -24,7 +24,7 @@ use Rattle.view.proofs.Accepted.{facts, instances-some}
 use Rattle.rules.specs.Parts.{reachOf}
 use Rattle.locate.specs.declared.Spot.{Spot}
 use Rattle.locate.specs.Spots.{SpotAt, nextSpot}
-use Rattle.locate.proofs.Placing.{record-some}
+use Rattle.view.proofs.Held.{record-some}
 use Rattle.mover.specs.Moves.{fileByte, IsWriteEnd, writeEnd}
 use Rattle.mover.specs.Parts.{Ranged}
 use Rattle.mover.proofs.Etypes.{reach, entries-kept, data-before, data-last}

@@ -17,12 +17,13 @@ use Rattle.laws.proofs.Quotients.{times-more, run-below}
 use Rattle.view.specs.declared.View.{View}
 use Rattle.view.specs.Types.{paper, whole}
 use Rattle.view.specs.Places.{place, byteOf, dataSize}
+use Rattle.view.proofs.Held.{record-allowed}
 use Rattle.rules.specs.Parts.{reachOf}
 use Rattle.locate.specs.declared.Spot.{Spot}
 use Rattle.locate.specs.Spots.{SpotAt, nextSpot}
 use Rattle.copier.specs.Parts.{onward, always, sizeOf, placeIn, Lies}
 use Rattle.mover.specs.Moves.{fileByte, writeEnd, newSize, written}
-use Rattle.mover.proofs.Etypes.{entries-allowed, reach, entries-kept, data-is, place-in, data-last}
+use Rattle.mover.proofs.Etypes.{reach, entries-kept, data-is, place-in, data-last}
 use Rattle.mover.proofs.Walking.{file-byte-run, Walking, walk-fits, walk-kept, walk-held, walk-step, walk-more, walk-place, walk-size, walk-room, move-offset, first-is, last-fits, walk-begun}
 use Rattle.mover.proofs.Writing.{write-end-is}
 use Rattle.writer.specs.Parts.{Storable, Writable, WriteDone}
@@ -97,7 +98,7 @@ module _ (v : View) (buf file₀ : List ℕ) (o c S : ℕ) (file : List ℕ) (x 
     pub scatter-lies : Lies (v .etype .entries) (v .etype .widths) (v .etype .displacements) p (length file) (length (take (length buf - (x - o) * S) (drop ((x - o) * S) buf)))
     scatter-lies = record {
       kept = entries-kept v (g .walk .kept);
-      allowed = entries-allowed v (g .walk .kept);
+      allowed = record-allowed v (g .walk .kept);
       inside = omega (arith, inside, g .long);
       fits = rw (← g .sized, tail-lent ((x - o) * S) buf, length-drop ((x - o) * S) buf) (omega (arith, runs));
     }

@@ -1,0 +1,46 @@
+-- What a kept view says of the record that holds it: counts, extents and displacements within document 01's limits, and allowed widths.
+use Prim.Native.Nat.{ℕ, _+_, _≤_, _<_}
+use mathlib.Core.Bool.{true}
+use mathlib.Core.Path.{_≡_, sym, ap, _∙_}
+use native.Mathlib.Omega.{arith}
+use Rattle.laws.specs.Lists.{nth}
+use Rattle.view.specs.declared.View.{View}
+use Rattle.view.specs.Limits.{widthAllowed}
+use Rattle.view.specs.Types.{paper}
+use Rattle.view.specs.Rules.{Kept}
+use Rattle.view.proofs.Paper.{paper-start, paper-entries, paper-width, paper-displacement, paper-instances, paper-origin, paper-file-extent}
+use Rattle.view.proofs.Accepted.{Facts, facts, instances-some, instances-few, origin-small}
+
+module _ (v : View) (k : Kept (paper v)) where
+  known : Facts (paper v)
+  known = facts (paper v) k
+
+  pub start-small : v .displacement ≤ 1099511627776
+  start-small = omega (arith, paper-start v, known .start)
+
+  pub some-entry : 0 < v .etype .entries
+  some-entry = omega (arith, paper-entries v, known .some)
+
+  pub few-entries : v .etype .entries ≤ 8
+  few-entries = omega (arith, paper-entries v, known .few)
+
+  pub record-allowed : (i : ℕ) → i < v .etype .entries → widthAllowed (nth (v .etype .widths) i) ≡ true
+  record-allowed i l = ap widthAllowed (sym (paper-width v i l)) ∙ known .allowed i (omega (arith, paper-entries v))
+
+  pub record-entry : (i : ℕ) → i < v .etype .entries → nth (v .etype .displacements) i + nth (v .etype .widths) i ≤ 1048576
+  record-entry i l = omega (arith, paper-displacement v i l, paper-width v i l, known .ends i (omega (arith, paper-entries v)))
+
+  pub record-some : 0 < v .filetype .instances
+  record-some = omega (arith, paper-instances v some-entry, instances-some (paper v) known)
+
+  pub record-few : v .filetype .instances ≤ 64
+  record-few = omega (arith, paper-instances v some-entry, instances-few (paper v) known)
+
+  pub record-extent : 0 < v .filetype .extent
+  record-extent = omega (arith, paper-file-extent v, known .file-extent .0)
+
+  pub extent-small : v .filetype .extent ≤ 1048576
+  extent-small = omega (arith, paper-file-extent v, known .file-extent .1)
+
+  pub record-origin : (i : ℕ) → i < v .filetype .instances → nth (v .filetype .origins) i < 1048576
+  record-origin i l = omega (arith, paper-origin v some-entry i l, origin-small (paper v) known i (omega (arith, paper-instances v some-entry)))
