@@ -1,37 +1,37 @@
 -- `etype_kept` follows the definition along its tests. Assumes nothing.
 use Rattle.held.specs.Parts.{etypeHeld}
-use Rattle.held.proofs.Chains.{chain, ordered-prefix, upto, prefix}
-use Rattle.laws.proofs.Booleans.{unflag-true, also-yes, within-yes}
+use Rattle.held.proofs.Chains.{ordered-prefix, upto, prefix}
+use Rattle.laws.proofs.Booleans.{unflag-true, unflag-false, also-yes, also-no, within-yes, within-low, within-high}
 use borrow.Author.Needs.{needs}
 use Rattle.held.proofs.etype_kept.Statement.{statement}
 use Rattle.held.proofs.etype_kept.Tie as tie
 
 returns : tie.Need-returns
 unfolding etypeHeld
-returns c = search chain depth 7
+returns c = also-no _ _ (search within-low)
 
 returns-2 : tie.Need-returns-2
 unfolding etypeHeld
-returns-2 c = search chain depth 7
+returns-2 c = also-no _ _ (search within-high)
 
 returns-3 : tie.Need-returns-3
 unfolding etypeHeld
-returns-3 c = search chain depth 7
+returns-3 c = also-yes _ _ _ (search within-yes) (also-no _ _ (search within-low))
 
 returns-4 : tie.Need-returns-4
 unfolding etypeHeld
-returns-4 c = search chain depth 7
+returns-4 c = also-yes _ _ _ (search within-yes) (also-no _ _ (search within-high))
 
 returns-5 : tie.Need-returns-5
 unfolding etypeHeld
-returns-5 c = search chain depth 7
+returns-5 c = also-yes _ _ _ (search within-yes) (also-yes _ _ _ (search within-yes) (also-no _ _ (search unflag-false)))
 
 slice-aggregate-never-decrease : tie.Need-slice-aggregate-never-decrease
 slice-aggregate-never-decrease c = search prefix
 
 returns-6 : tie.Need-returns-6
 unfolding etypeHeld
-returns-6 c = search (unflag-true, also-yes, within-yes, ordered-prefix, upto) depth 7
+returns-6 c = also-yes _ _ _ (search within-yes) (also-yes _ _ _ (search within-yes) (also-yes _ _ _ (search unflag-true) (search (ordered-prefix, upto))))
 
 pub etype-kept-spec : {M : Type 1} → statement M
 etype-kept-spec =

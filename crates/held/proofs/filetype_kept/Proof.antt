@@ -1,33 +1,34 @@
 -- `filetype_kept` follows the definition along its tests; what each call requires follows from the etype's test and those before. Assumes nothing.
-use Rattle.laws.proofs.Booleans.{tests}
+use Rattle.laws.proofs.Booleans.{tests, unflag-true, unflag-false, also-yes, also-no, within-yes, within-low, within-high}
+use borrow.Author.Tests.{le-leb, lt-leb}
 use Rattle.held.specs.Parts.{filetypeHeld, lastBegins}
-use Rattle.held.proofs.Chains.{chain, etype-entries, etype-extent, etype-some, entries-fit, reach-small, last-in, last-small, first-small, reach-flag, reach-no-flag, origins-flag}
+use Rattle.held.proofs.Chains.{etype-entries, etype-extent, etype-some, entries-fit, reach-small, last-in, last-small, first-small, reach-flag, reach-no-flag, origins-flag}
 use borrow.Author.Needs.{needs}
 use Rattle.held.proofs.filetype_kept.Statement.{statement}
 use Rattle.held.proofs.filetype_kept.Tie as tie
 
 returns : tie.Need-returns
 unfolding filetypeHeld lastBegins
-returns c = search chain depth 9
+returns c = also-no _ _ (search within-low)
 
 returns-2 : tie.Need-returns-2
 unfolding filetypeHeld lastBegins
-returns-2 c = search chain depth 9
+returns-2 c = also-no _ _ (search within-high)
 
 mul-entries : tie.Need-mul-entries
 mul-entries c = search (tests, entries-fit)
 
 returns-3 : tie.Need-returns-3
 unfolding filetypeHeld lastBegins
-returns-3 c = search chain depth 9
+returns-3 c = also-yes _ _ _ (search within-yes) (also-no _ _ (search lt-leb))
 
 returns-4 : tie.Need-returns-4
 unfolding filetypeHeld lastBegins
-returns-4 c = search chain depth 9
+returns-4 c = also-yes _ _ _ (search within-yes) (also-yes _ _ _ (search le-leb) (also-no _ _ (search within-low)))
 
 returns-5 : tie.Need-returns-5
 unfolding filetypeHeld lastBegins
-returns-5 c = search chain depth 9
+returns-5 c = also-yes _ _ _ (search within-yes) (also-yes _ _ _ (search le-leb) (also-no _ _ (search within-high)))
 
 reach-of-requires : tie.Need-reach-of-requires
 reach-of-requires c κs = search etype-entries
@@ -37,7 +38,7 @@ instances-fit-requires c κs = search (tests, reach-small)
 
 returns-6 : tie.Need-returns-6
 unfolding filetypeHeld lastBegins
-returns-6 c = search (chain, reach-no-flag) depth 9
+returns-6 c = also-yes _ _ _ (search within-yes) (also-yes _ _ _ (search le-leb) (also-yes _ _ _ (search within-yes) (also-no _ _ (search reach-no-flag))))
 
 sub-last : tie.Need-sub-last
 sub-last c = search (tests, etype-some)
@@ -53,14 +54,14 @@ instances-step-requires c κs = search (tests, last-small, first-small, origins-
 
 returns-7 : tie.Need-returns-7
 unfolding filetypeHeld lastBegins
-returns-7 c = search (chain, reach-flag) depth 9
+returns-7 c = also-yes _ _ _ (search within-yes) (also-yes _ _ _ (search le-leb) (also-yes _ _ _ (search within-yes) (also-yes _ _ _ (search reach-flag) (also-no _ _ (search unflag-false)))))
 
 holes-fit-requires : tie.Need-holes-fit-requires
 holes-fit-requires c κs = search (tests, etype-extent)
 
 returns-8 : tie.Need-returns-8
 unfolding filetypeHeld lastBegins
-returns-8 c = search (chain, reach-flag) depth 9
+returns-8 c = also-yes _ _ _ (search within-yes) (also-yes _ _ _ (search le-leb) (also-yes _ _ _ (search within-yes) (also-yes _ _ _ (search reach-flag) (also-yes _ _ _ (search unflag-true) (search needs)))))
 
 pub filetype-kept-spec : {M : Type 1} → statement M
 filetype-kept-spec =

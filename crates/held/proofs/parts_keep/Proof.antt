@@ -1,30 +1,31 @@
 -- `parts_keep` follows the tests on the parts, which make up the rules on the view that the parts stand for. Assumes nothing.
 use borrow.Author.Needs.{needs}
-use Rattle.laws.proofs.Booleans.{tests}
+use Rattle.laws.proofs.Booleans.{tests, unflag-true, unflag-false, also-yes, also-no}
+use borrow.Author.Tests.{le-leb, lt-leb}
 use Rattle.held.specs.Parts.{viewHeld}
-use Rattle.held.proofs.Chains.{chain, shape-flags}
+use Rattle.held.proofs.Chains.{shape-flags}
 use Rattle.held.proofs.Whole.{keeps-by, no-writing, writing}
 use Rattle.held.proofs.parts_keep.Statement.{statement}
 use Rattle.held.proofs.parts_keep.Tie as tie
 
 returns : tie.Need-returns
 unfolding viewHeld
-returns c = keeps-by _ _ _ (search chain depth 6)
+returns c = keeps-by _ _ _ (also-no _ _ (search lt-leb))
 
 returns-2 : tie.Need-returns-2
 unfolding viewHeld
-returns-2 c = keeps-by _ _ _ (search chain depth 6)
+returns-2 c = keeps-by _ _ _ (also-yes _ _ _ (search le-leb) (also-no _ _ (search unflag-false)))
 
 filetype-kept-requires : tie.Need-filetype-kept-requires
 filetype-kept-requires c κs = search tests
 
 returns-3 : tie.Need-returns-3
 unfolding viewHeld
-returns-3 c = keeps-by _ _ _ (search chain depth 6)
+returns-3 c = keeps-by _ _ _ (also-yes _ _ _ (search le-leb) (also-yes _ _ _ (search unflag-true) (also-no _ _ (search unflag-false))))
 
 returns-4 : tie.Need-returns-4
 unfolding viewHeld
-returns-4 c = keeps-by _ _ _ (search (chain, no-writing) depth 6)
+returns-4 c = keeps-by _ _ _ (also-yes _ _ _ (search le-leb) (also-yes _ _ _ (search unflag-true) (also-yes _ _ _ (search unflag-true) (search no-writing))))
 
 shape-apart-requires : tie.Need-shape-apart-requires
 shape-apart-requires c κs =
@@ -34,7 +35,7 @@ shape-apart-requires c κs =
 
 returns-5 : tie.Need-returns-5
 unfolding viewHeld
-returns-5 c = keeps-by _ _ _ (search (chain, writing) depth 6)
+returns-5 c = keeps-by _ _ _ (also-yes _ _ _ (search le-leb) (also-yes _ _ _ (search unflag-true) (also-yes _ _ _ (search unflag-true) (search writing))))
 
 pub parts-keep-spec : {M : Type 1} → statement M
 parts-keep-spec =
