@@ -25,7 +25,8 @@ use Rattle.view.proofs.Holding.{held-at, hold-same}
 use Rattle.held.specs.Parts.{apartHeld}
 use Rattle.held.proofs.Pieces.{holes-same}
 use Rattle.held.proofs.Instances.{apart-same}
-use Rattle.accept.specs.Parts.{wholeAt, rulesRefusal, heldEtype, entryShifted, builtAt, groupsBuilt, groupOrigin, heldFiletype, shapesRefusal, ShapesReady}
+use Rattle.built.specs.Parts.{wholeAt, heldEtype, entryShifted, builtAt, groupsBuilt, groupOrigin, heldFiletype}
+use Rattle.accept.specs.Parts.{rulesRefusal, shapesRefusal, ShapesReady}
 use Rattle.accept.proofs.Chain.{Limited}
 
 -- ---- what the code builds is the record of the view

@@ -23,7 +23,8 @@ use Rattle.accept.specs.declared.Accepted.{Accepted}
 use Rattle.lent.specs.Lists.{lentType, lentView}
 use Rattle.lent.specs.Parts.{limitsRefusal}
 use Rattle.accept.specs.Answers.{acceptAnswer, UnusedZero, AcceptedAs}
-use Rattle.accept.specs.Parts.{wholeAt, rulesRefusal, heldEtype, heldFiletype, shapesRefusal, ShapesReady}
+use Rattle.built.specs.Parts.{wholeAt, heldEtype, heldFiletype}
+use Rattle.accept.specs.Parts.{rulesRefusal, shapesRefusal, ShapesReady}
 use Rattle.accept.proofs.Chain.{Limited, limited, limits-refused, limits-granted, set-accepted}
 use Rattle.accept.proofs.Accepting.{naturalsOf, etype-hold, filetype-hold, shapes-same, ready, etype-few, pairs-few}
 

@@ -12,7 +12,8 @@ use Rattle.laws.proofs.Booleans.{check-inv, also-inv}
 use Rattle.view.specs.Limits.{etypeEntriesAllowed, filetypeEntriesAllowed, extentAllowed, displacementAllowed}
 use Rattle.view.specs.Types.{PaperView, entries}
 use Rattle.view.specs.Rules.{paired, entriesAllowed, viewRefusal, setRefusal, accepted}
-use Rattle.lent.specs.Parts.{countsAllowed, limitsRefusal}
+use Rattle.limits.specs.Parts.{countsAllowed}
+use Rattle.lent.specs.Parts.{limitsRefusal}
 use Rattle.accept.specs.Parts.{rulesRefusal}
 
 -- ---- a chain with later checks at its end: it passes to them, or it answers as without them

@@ -1,4 +1,3 @@
-pub mod Building
 pub mod Shaping
 pub mod Chain
 pub mod Accepting

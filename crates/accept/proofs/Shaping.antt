@@ -3,20 +3,21 @@ use Prim.Native.Nat.{ℕ, _*_, _/_, _%_, _≤_, _<_}
 use mathlib.Core.Bool.{Bool, true, false, not}
 use mathlib.Core.List.{List, map}
 use mathlib.Core.Logic.{⊎-elim}
-use mathlib.Core.Path.{_≡_, refl, sym, ap, _∙_}
+use mathlib.Core.Path.{_≡_, sym, ap, _∙_}
 use native.Mathlib.Nat.{div-add-mod', eq-zero-or-pos, zero-mul}
 use native.Mathlib.Omega.{arith}
 use borrow.Author.Tests.{eqb-true}
 use lib.ListN.{length, take}
 use Rattle.laws.specs.Checks.{either}
 use Rattle.laws.specs.Lists.{nth}
-use Rattle.laws.proofs.Booleans.{check-yes, also-inv, also-true, either-left, either-right, either-no, unflag-true, unflag-false}
+use Rattle.laws.proofs.Booleans.{also-inv, either-left, either-right, either-no, unflag-true, unflag-false}
 use Rattle.view.specs.declared.Etype.{Etype}
 use Rattle.view.specs.declared.Filetype.{Filetype}
 use Rattle.view.specs.Rules.{ordered}
 use Rattle.held.specs.Parts.{ShapeKept}
 use Rattle.held.proofs.Chains.{ordered-prefix, upto-field}
-use Rattle.accept.specs.Parts.{groupsBuilt, ShapesReady}
+use Rattle.built.specs.Parts.{groupsBuilt}
+use Rattle.accept.specs.Parts.{ShapesReady}
 
 -- the order of the etype's displacements in use
 module _ (ds : List ℕ) (n : ℕ) (t : Bool) (e : t ≡ ordered (nth (take n ds)) (length (take n ds))) (long : length (map (λ (x : ℕ). x) ds) ≡ 8) (few : n ≤ 8) where
@@ -60,5 +61,3 @@ either-apart w u a e h = either-right (not w) a (unflag-true u a e h)
 
 pub either-overlap : (t w u a : Bool) → t ≡ w → not t ≡ false → u ≡ a → not u ≡ true → either (not w) a ≡ false
 either-overlap t w u a e h d k = either-no (not w) a (ap not (sym e) ∙ h) (unflag-false u a d k)
-
-pub ruleset shaping = (refl, check-yes, also-true, unflag-true, prefix-yes)

@@ -1,59 +1,26 @@
 -- The data of one etype, entry by entry: no sum wraps, each entry lies inside, and the entries' runs make up the packed data.
-use Prim.Native.Nat.{ℕ, _+_, _-_, _*_, _^_, _≤_, _<_}
-use mathlib.Core.Bool.{Bool, true, false, false≢true}
+use Prim.Native.Nat.{ℕ, _+_, _*_, _^_, _≤_, _<_}
+use mathlib.Core.Bool.{true}
 use mathlib.Core.List.{List}
-use mathlib.Core.Logic.{_⊎_, inl, inr, ⊎-elim}
 use mathlib.Core.Path.{_≡_, refl, sym, ap, _∙_}
-use native.Mathlib.Nat.{mul-le-mul, add-zero}
+use native.Mathlib.Nat.{mul-le-mul}
 use native.Mathlib.Omega.{arith}
-use borrow.Author.Needs.{needs}
-use borrow.Author.Tests.{eqb-true, ne-eqb}
-use lib.Dec.{eqb}
 use lib.IntN.{pos}
-use lib.ListN.{length, getD, set, length-set}
+use lib.ListN.{length, getD}
 use mir.Syntax.{w64}
 use mir.Val.{Fits}
-use Rattle.laws.specs.Checks.{either}
 use Rattle.laws.specs.Lists.{nth, store}
 use Rattle.laws.specs.Search.{total}
-use Rattle.laws.proofs.Stores.{store-none, store-more, store-end, length-tabulate, tabulate-at}
+use Rattle.laws.proofs.Stores.{store-none, length-tabulate, tabulate-at}
 use Rattle.laws.proofs.Runs.{store-run}
 use Rattle.laws.proofs.Sums.{greatest-above, total-more, total-part, total-same, total-most}
 use Rattle.view.specs.Limits.{widthAllowed}
 use Rattle.view.specs.Types.{entries, widthAt, displacementAt, whole}
 use Rattle.view.specs.Places.{packedBefore, dataAt}
-use Rattle.view.proofs.Accepted.{width-small}
 use Rattle.view.proofs.Packing.{data-run}
 use Rattle.rules.specs.Parts.{EntriesKept, entryEnd, reachOf}
-use Rattle.copier.specs.Parts.{onward, byteFrom, always, typeOf, WidthsKept, sizeOf, placeIn, byteIn, Lies}
-
--- ---- a run of bytes
-
--- a run of a known width
-pub run-of : (place value : ℕ → ℕ) (width k : ℕ) (l₀ l : List ℕ) → width ≡ k → l ≡ store place value k l₀ → l ≡ store place value width l₀
-run-of place value width k l₀ l e q = q ∙ ap (λ (z : ℕ). store place value z l₀) (sym e)
-
--- two runs of four are one of eight
-pub run-twice : (source : List ℕ) (from to : ℕ) (l₀ l l' : List ℕ) → l ≡ store (onward to) (byteFrom source from) 4 l₀ → l' ≡ store (onward (to + 4)) (byteFrom source (from + 4)) 4 l → l' ≡ store (onward to) (byteFrom source from) 8 l₀
-unfolding onward byteFrom
-run-twice source from to l₀ l l' p q = store-run (onward to) (byteFrom source from) (onward (to + 4)) (byteFrom source (from + 4)) 4 4 l₀ l l' p q (λ k s. omega arith) (λ k s. ap (nth source) (omega arith))
-
--- the one width left
-width-one : (w : ℕ) → widthAllowed w ≡ true → (w ≡ 4 → ⊥) → (w ≡ 8 → ⊥) → (w ≡ 2 → ⊥) → w ≡ 1
-unfolding widthAllowed either
-width-one w h n4 n8 n2 = go (eqb w 1) refl (rw (ne-eqb w 2 n2, ne-eqb w 4 n4, ne-eqb w 8 n8) at h)
-  where
-    go : (b : Bool) → eqb w 1 ≡ b → either b (either false (either false false)) ≡ true → w ≡ 1
-    go true e q = eqb-true w 1 e
-    go false e q = absurd (false≢true q)
-
--- a run of an allowed width has a first place
-pub run-first : (a w n : ℕ) → widthAllowed w ≡ true → a + w ≤ n → a < n
-run-first a w n h l = omega (arith, width-small w h)
-
-pub run-one : (source : List ℕ) (from to width : ℕ) (l : List ℕ) → widthAllowed width ≡ true → (width ≡ 4 → ⊥) → (width ≡ 8 → ⊥) → (width ≡ 2 → ⊥) → set l to (getD source from 0) ≡ store (onward to) (byteFrom source from) width l
-unfolding store onward byteFrom
-run-one source from to width l h n4 n8 n2 = rw (width-one width h n4 n8 n2) (simp add-zero)
+use Rattle.runs.specs.Parts.{onward, byteFrom}
+use Rattle.copier.specs.Parts.{typeOf, WidthsKept, sizeOf, placeIn, byteIn, Lies}
 
 -- ---- the entries of an etype
 
@@ -93,8 +60,6 @@ module _ (n : ℕ) (ws : List ℕ) where
 
     pub sum-fits : (i s : ℕ) → Summed ws n i s → i < n → Fits w64 (s + getD ws i 0)
     sum-fits i s h l = record { fits = omega (arith, sum-small i s h, k .small i l) }
-
-pub ruleset summing = (needs, summed-none, summed-more, summed-end, entry-held, entry-scaled, sum-fits)
 
 -- ---- the data of an etype that begins at a, moved either way
 
@@ -194,48 +159,3 @@ module _ (n : ℕ) (ws ds : List ℕ) where
     pub in-more : (file' : List ℕ) → length file' ≡ length file → file' ≡ store (onward (a + getD ds i 0)) (byteFrom part packed) (getD ws i 0) file → Copying n ws ds a (length file₀) (length part) (placeIn n ws ds a) (nth part) file₀ file' (i + 1) (packed + getD ws i 0)
     unfolding onward byteFrom
     in-more file' m e = copying-run a (length file₀) (length part) (placeIn n ws ds a) (nth part) file₀ file i packed h l (onward (a + getD ds i 0)) (byteFrom part packed) file' m e (λ k q. entry-at a (length file₀) (length part) (placeIn n ws ds a) (nth part) file₀ file i packed h l k q) (λ k q. refl)
-
-pub ruleset copying = (needs, copying-none, copying-end, copying-held, copying-scaled, file-inside, file-fits, packed-inside, packed-fits, out-inside, out-more, in-inside, in-more)
-
--- ---- one value in a run of places
-
--- the places before `at` are filled
-pub record Filling (from to x at : ℕ) (file₀ file : List ℕ) : Type 0 where
-  pub begun : from ≤ at
-  pub reached : (at ≤ to) ⊎ (at ≡ from)
-  pub long : length file ≡ length file₀
-  pub done : file ≡ store (onward from) (always x) (at - from) file₀
-
-module _ (from to x : ℕ) (file₀ : List ℕ) where
-  pub filling-none : Filling from to x from file₀ file₀
-  filling-none = record {
-    begun = omega arith;
-    reached = inr refl;
-    long = refl;
-    done = let e : from - from ≡ 0 = omega arith in rw e (store-none (onward from) (always x) file₀);
-  }
-
-  module _ (at : ℕ) (file : List ℕ) (h : Filling from to x at file₀ file) where
-    pub filling-end : to ≤ at → file ≡ store (onward from) (always x) (to - from) file₀
-    filling-end l = let e : at - from ≡ to - from = ⊎-elim (λ q. omega arith) (λ q. omega arith) (h .reached) in h .done ∙ ap (λ (z : ℕ). store (onward from) (always x) z file₀) e
-
-    module _ (l : at < to) (b : to ≤ length file₀) where
-      pub filling-inside : at < length file
-      filling-inside = omega (arith, h .long)
-
-      pub filling-fits : length file₀ < 2 ^ 64 → Fits w64 (at + 1)
-      filling-fits q = record { fits = omega arith }
-
-      pub filling-more : Filling from to x (at + 1) file₀ (set file at x)
-      unfolding onward always
-      filling-more =
-          let e : at + 1 - from ≡ at - from + 1 = omega (arith, h .begun) in
-          let p : at ≡ from + (at - from) = omega (arith, h .begun) in
-          record {
-            begun = omega (arith, h .begun);
-            reached = inl (omega arith);
-            long = length-set file at x ∙ h .long;
-            done = rw e (store-more (onward from) (always x) (at - from) at x file₀ file (h .done) p refl);
-          }
-
-pub ruleset filling = (needs, filling-none, filling-end, filling-inside, filling-fits, filling-more)

@@ -11,23 +11,6 @@ use Rattle.view.specs.Types.{PaperType}
 use Rattle.view.specs.Places.{dataAt}
 use Rattle.rules.specs.Parts.{EntriesKept, reachOf}
 
--- place k of a run that begins at a
-unfoldable pub onward : ℕ → ℕ → ℕ
-onward a k = a + k
-
--- byte k of a run of l that begins at a
-unfoldable pub byteFrom : List ℕ → ℕ → ℕ → ℕ
-byteFrom l a k = nth l (a + k)
-
--- a run of `width` places from `from` on lies within one list, and one from `to` on within another, by their lengths
-pub record Runs (there from here to width : ℕ) : Type 0 where
-  pub source : from + width ≤ there
-  pub target : to + width ≤ here
-
--- one value for each place
-unfoldable pub always : ℕ → ℕ → ℕ
-always x k = x
-
 -- n entries of widths ws and displacements ds, as a type; its extent plays no part in where its data lie
 unfoldable pub typeOf : ℕ → List ℕ → List ℕ → PaperType
 typeOf n ws ds = record { widths = tabulate (nth ws) n; displacements = tabulate (λ i. pos (nth ds i)) n; extent = pos 0 }

@@ -5,7 +5,6 @@ use mathlib.Core.Logic.{⊎-elim}
 use mathlib.Core.Path.{_≡_, refl, sym, ap, _∙_}
 use native.Mathlib.Nat.{mul-le-mul}
 use native.Mathlib.Omega.{arith}
-use borrow.Author.Needs.{needs}
 use borrow.Author.Tests.{leb-true, le-leb, lt-leb}
 use lib.Dec.{leb}
 use lib.IntN.{ℤ, pos}
@@ -16,6 +15,7 @@ use Rattle.laws.proofs.Booleans.{lt-or-le, also-no, check-yes, check-no, check-
 use Rattle.view.specs.Limits.{pointerAllowed}
 use Rattle.view.specs.Types.{paper, whole}
 use Rattle.view.specs.Places.{dataSize}
+use Rattle.limits.proofs.Numbers.{pointer-high}
 use Rattle.ranges.specs.Ranges.{accessAllowed}
 use Rattle.ranges.proofs.Ranging.{access-sum, access-offset}
 use Rattle.copier.specs.Parts.{WidthsKept, sizeOf}
@@ -27,7 +27,7 @@ use Rattle.file.specs.declared.FileRecord.{FileRecord}
 use Rattle.file.specs.Handles.{viewOf, fileKept, startOf}
 use Rattle.file.specs.Refusals.{accessRefusal}
 use Rattle.file.specs.Parts.{checkedAccess}
-use Rattle.file.proofs.Checking.{judged-file-view, file-kept-view, file-short, file-limit, pointer-high, limits-false}
+use Rattle.file.proofs.Checking.{judged-file-view, file-kept-view, file-short, file-limit, limits-false}
 
 -- ---- the checks
 
@@ -67,8 +67,6 @@ module _ (u : Bool) (h : Handle) (len : ℕ) (r : FileRecord) (o : ℤ) (c room 
         pub access-granted : c * s ≤ room → 0 ≡ checkedAccess u h len r o c room
         unfolding checkedAccess accessRefusal viewOf
         access-granted l = check-yes _ 1 _ 0 (unflag-true t _ k n) (check-yes _ 11 _ 0 (unflag-true u _ refl m) (check-yes _ 12 _ 0 (unflag-true w _ b q) (check-yes _ 13 _ 0 (le-leb (c * dataSize (paper (h .view))) room (rw (size-is h len r o c t k n s e) at l)) refl)))
-
-pub ruleset accessing = (needs, access-handle, access-widths, access-mode, access-range, bytes-fit, access-room, access-granted)
 
 -- ---- what they leave
 
@@ -130,8 +128,6 @@ start-at h l z e = cond-yes _ (pos (h .pointer)) (pos 0) z (le-leb (h .pointer) 
 
 pub start-small : (p : ℕ) → p ≤ 4294967296 → p < 9223372036854775808
 start-small p l = omega arith
-
-pub ruleset starting = (needs, start-past, start-at, start-small)
 
 -- check 1 refuses a pointer that is no offset
 pub past-kept : (h : Handle) (len : ℕ) (r : FileRecord) → 4294967296 < h .pointer → fileKept h len r ≡ false

@@ -4,7 +4,6 @@ use mathlib.Core.Bool.{Bool, true, false, not}
 use mathlib.Core.List.{List}
 use mathlib.Core.Path.{_≡_, refl, sym, ap, _∙_}
 use native.Mathlib.Omega.{arith}
-use borrow.Author.Needs.{needs}
 use borrow.Author.Tests.{le-leb, lt-leb}
 use lib.IntN.{ℤ, pos}
 use mir.Syntax.{w64}
@@ -31,7 +30,6 @@ use Rattle.file.specs.declared.Opened.{Opened}
 use Rattle.file.specs.Parts.{openedAs}
 use Rattle.file.specs.Handles.{viewOf, freshHandle, modeGot, handleKept, fileKept, withView}
 use Rattle.file.specs.Refusals.{openRefusal, setViewRefusal, placeRefusal, reverseRefusal, endRefusal}
-use Rattle.file.proofs.Checking.{judged-view, judged-file-view, judged-size}
 use Rattle.file.specs.Answers.{openAnswer, setViewAnswer, placeAnswer, reverseAnswer, endAnswer}
 
 -- ---- set
@@ -126,7 +124,3 @@ module _ (mode : ℕ) where
   pub open-done : mode ≤ 3 → (got : ℕ) → got ≡ modeGot mode → (h : Handle) → h ≡ freshHandle got → (m : Opened) → m ≡ openedAs 0 h → m ≡ openAnswer mode
   unfolding openAnswer openRefusal check granted
   open-done l got g h e m q = q ∙ rw (le-leb mode 3 l) (λ i. record { refusal = 0; count = 0; handle = (e ∙ ap freshHandle g) i })
-
-pub ruleset answering = (needs, unflag-true, set-handle, set-refuses, set-grants, judged-view, place-handle, place-range, place-done, judged-file-view, judged-size, end-handle, end-done, open-refused, open-done)
-
-pub ruleset reversing = (needs, judged-view, reverse-handle)

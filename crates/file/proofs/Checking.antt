@@ -3,20 +3,19 @@ use Prim.Native.Nat.{ℕ, _≤_, _<_}
 use mathlib.Core.Bool.{Bool, true, false, not, false≢true}
 use mathlib.Core.Path.{_≡_, refl, sym, _∙_}
 use native.Mathlib.Omega.{arith}
-use borrow.Author.Needs.{needs}
-use borrow.Author.Tests.{leb-true, le-leb, lt-leb, eq-eqb, ne-eqb}
-use lib.Dec.{leb, eqb}
-use Rattle.laws.specs.Checks.{also, within}
-use Rattle.laws.proofs.Booleans.{also-yes, also-no, also-inv, also-false, within-low, unflag-true, unflag-false, cond-yes, cond-no, either-yes, either-else}
+use borrow.Author.Tests.{leb-true, eq-eqb, ne-eqb}
+use lib.Dec.{eqb}
+use Rattle.laws.specs.Checks.{also}
+use Rattle.laws.proofs.Booleans.{also-yes, also-no, also-inv, also-false, unflag-true, unflag-false, cond-yes, cond-no, either-yes, either-else}
 use Rattle.view.specs.declared.View.{View}
 use Rattle.view.specs.Limits.{pointerAllowed, fileAllowed}
 use Rattle.view.specs.Types.{paper, defaultView}
 use Rattle.view.specs.Rules.{accepted, modeAllowed, allowsReading, Kept}
 use Rattle.view.proofs.Accepted.{accepted-kept}
+use Rattle.limits.specs.Parts.{limitsKept}
 use Rattle.file.specs.declared.Handle.{Handle}
 use Rattle.file.specs.declared.FileRecord.{FileRecord}
 use Rattle.file.specs.Handles.{viewOf, freshHandle, modeGot, handleKept, fileKept}
-use Rattle.file.specs.Parts.{limitsKept}
 
 also-last : (a b u : Bool) → u ≡ a → b ≡ true → u ≡ also a b
 unfolding also
@@ -30,21 +29,6 @@ unfolding freshHandle
 fresh-is mode v e = λ i. record { mode = mode; pointer = 0; view = e i }
 
 -- ---- check 1 where the file is not looked at
-
-module _ (mode pointer : ℕ) where
-  pub pointer-high : 4294967296 < pointer → false ≡ limitsKept mode pointer
-  unfolding limitsKept pointerAllowed
-  pointer-high l = also-no _ _ (lt-leb pointer 4294967296 l)
-
-  pub mode-low : mode < 1 → false ≡ limitsKept mode pointer
-  unfolding limitsKept modeAllowed
-  mode-low l = sym (also-false _ _ (within-low 1 3 mode l))
-
-  pub mode-high : pointer ≤ 4294967296 → 1 ≤ mode → leb mode 3 ≡ limitsKept mode pointer
-  unfolding limitsKept modeAllowed pointerAllowed within
-  mode-high p a = also-yes _ _ _ (le-leb pointer 4294967296 p) (also-yes _ _ _ (le-leb 1 mode a) refl)
-
-pub ruleset limiting = (needs, pointer-high, mode-low, mode-high)
 
 module _ (h : Handle) where
   pub limits-false : limitsKept (h .mode) (h .pointer) ≡ false → false ≡ handleKept h
@@ -85,22 +69,18 @@ module _ (h : Handle) where
   -- ---- and where it is
 
   module _ (len : ℕ) (r : FileRecord) where
-    pub file-long : 1099511627776 < len → false ≡ fileKept h len r
-    unfolding fileKept fileAllowed
-    file-long l = sym (also-false _ _ (sym (also-no _ _ (lt-leb len 1099511627776 l))))
-
-    pub file-short-of : len < r .size → false ≡ fileKept h len r
-    unfolding fileKept fileAllowed
-    file-short-of l = sym (also-false _ _ (also-false _ _ (lt-leb (r .size) len l)))
+    pub file-no : (s : Bool) → s ≡ fileAllowed len (r .size) → not s ≡ true → false ≡ fileKept h len r
+    unfolding fileKept
+    file-no s d n = sym (also-false _ _ (unflag-false s _ d n))
 
     module _ (t : Bool) (e : t ≡ limitsKept (h .mode) (h .pointer)) where
       pub file-limits : not t ≡ true → false ≡ fileKept h len r
       unfolding fileKept
       file-limits n = also-no _ _ (sym (limits-no t e n))
 
-      pub file-judged : not t ≡ false → len ≤ 1099511627776 → r .size ≤ len → (u : Bool) → u ≡ accepted (h .mode) (paper (h .view)) → u ≡ fileKept h len r
-      unfolding fileKept fileAllowed
-      file-judged n l s u q = also-last _ _ u (view-judged t e n u q) (sym (also-yes _ _ true (le-leb len 1099511627776 l) (sym (le-leb (r .size) len s))))
+      pub file-judged : not t ≡ false → (s : Bool) → s ≡ fileAllowed len (r .size) → not s ≡ false → (u : Bool) → u ≡ accepted (h .mode) (paper (h .view)) → u ≡ fileKept h len r
+      unfolding fileKept
+      file-judged n s d m u q = also-last _ _ u (view-judged t e n u q) (unflag-true s _ d m)
 
     module _ (k : fileKept h len r ≡ true) where
       pub file-kept-handle : handleKept h ≡ true
@@ -128,8 +108,6 @@ module _ (h : Handle) where
       pub judged-size : r .size ≤ 1099511627776
       judged-size = size-limit (unflag-true t _ e n)
 
-pub ruleset keeping = (needs, limits-no, view-judged, file-limits, file-long, file-short-of, file-judged)
-
 -- ---- modes
 
 pub mode-unnamed : (mode : ℕ) → mode ≡ 0 → 3 ≡ modeGot mode
@@ -147,5 +125,3 @@ reads-only mode e = either-yes _ _ (eq-eqb mode 1 e)
 pub reads-both : (mode : ℕ) → (mode ≡ 1 → ⊥) → eqb mode 3 ≡ allowsReading mode
 unfolding allowsReading
 reads-both mode n = either-else _ _ _ (ne-eqb mode 1 n) refl
-
-pub ruleset modes = (needs, mode-unnamed, mode-named, reads-only, reads-both)

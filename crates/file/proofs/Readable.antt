@@ -4,7 +4,6 @@ use mathlib.Core.Bool.{Bool, false}
 use mathlib.Core.List.{List}
 use mathlib.Core.Path.{_≡_, refl, sym, ap, _∙_}
 use native.Mathlib.Omega.{arith}
-use borrow.Author.Needs.{needs}
 use lib.IntN.{ℤ, pos}
 use lib.ListN.{length}
 use mir.Syntax.{w64}
@@ -58,8 +57,6 @@ module _ (h : Handle) (file : List ℕ) (r : FileRecord) (o : ℤ) (c : ℕ) (be
         answer = λ i. record { refusal = sym y i; count = g i; handle = h; file = r };
         buffer = d .buffer ∙ ap (λ (x : ℕ). readInto (paper (h .view)) file (whole o) x before) g ∙ sym (granted-yes _ _ before y);
       }
-
-pub ruleset reading = (needs, at-movable, at-refused, at-done)
 
 -- ---- at the pointer
 
@@ -123,5 +120,3 @@ module _ (h : Handle) (file : List ℕ) (r : FileRecord) (c : ℕ) (before : Lis
             answer = λ i. record { refusal = sym y i; count = count-is i; handle = (ap (λ (x : ℕ). withPointer h (h .pointer + x)) count-is ∙ sym g) i; file = r };
             buffer = at-pointer .buffer;
           }
-
-pub ruleset nexting = (needs, next-refused, pointer-fits, next-done)

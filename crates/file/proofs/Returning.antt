@@ -5,7 +5,6 @@ use mathlib.Core.List.{List}
 use mathlib.Core.Path.{_≡_, refl, sym, _∙_, ap}
 use native.Mathlib.Nat.{mul-le-mul}
 use native.Mathlib.Omega.{arith}
-use borrow.Author.Needs.{needs}
 use borrow.Author.Tests.{leb-true, le-leb, lt-leb}
 use lib.Dec.{leb}
 use lib.IntN.{ℤ}
@@ -74,8 +73,6 @@ module _ (h : Handle) (ew ed fw fd : ℕ) (t : Bool) (k : t ≡ handleKept h) wh
     give-granted a b c d =
         check-yes _ 1 _ 0 (unflag-true t _ k n)
         (check-yes _ 13 _ 0 (also-true (le-leb _ ew (omega (arith, etype-is))) (also-true (le-leb _ ed (omega (arith, etype-is))) (also-true (le-leb _ fw (omega (arith, filetype-is))) (le-leb _ fd (omega (arith, filetype-is)))))) refl)
-
-pub ruleset shortness = (needs, give-handle, give-fits, short-1, short-2, short-3, short-4, give-granted)
 
 -- ---- the answer
 

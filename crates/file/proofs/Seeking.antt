@@ -2,7 +2,6 @@
 use Prim.Native.Nat.{ℕ, _≤_, _<_}
 use mathlib.Core.Bool.{Bool, true, false, not, cond}
 use mathlib.Core.Path.{_≡_, refl, sym, ap, _∙_}
-use borrow.Author.Needs.{needs}
 use borrow.Author.Tests.{eq-eqb, ne-eqb, le-leb, lt-leb}
 use lib.Dec.{eqb}
 use lib.IntN.{ℤ, pos, _+ℤ_}
@@ -26,7 +25,6 @@ use Rattle.file.specs.Handles.{viewOf, fileKept, withPointer}
 use Rattle.file.specs.Refusals.{seekTarget, seekRefusal}
 use Rattle.file.specs.Answers.{seekAnswer}
 use Rattle.file.specs.Parts.{refusedMove, seekBase}
-use Rattle.file.proofs.Checking.{judged-file-view, judged-size}
 
 -- ---- the base
 
@@ -45,8 +43,6 @@ module _ (h : Handle) (r : FileRecord) (whence : ℕ) where
     base-end m k l end e b q =
         let z : toZ w64 (ofZ w64 (pos (endOfFile (paper (h .view)) (r .size)))) ≡ pos (endOfFile (paper (h .view)) (r .size)) = toZ-ofZ {w = w64} (record { sfits = end-bound (h .view) k (r .size) l }) in
         cond-no _ _ _ _ (ne-eqb whence 0 n) (cond-no _ _ _ _ (ne-eqb whence 1 m) (q ∙ ap whole (ap (λ x. toZ w64 (ofZ w64 x)) e ∙ z)))
-
-pub ruleset basing = (needs, base-set, base-current, base-end)
 
 -- ---- the answer
 
@@ -90,5 +86,3 @@ module _ (h : Handle) (len : ℕ) (r : FileRecord) (z : ℤ) (whence : ℕ) (t :
           let y = unflag-true (g .allowed) _ allowed-is u in
           let p : g .pointer ≡ whole (seekTarget h r z whence) = rw y at (ap (λ x. x .pointer) goes) in
           rw (unflag-true t _ k n, le-leb whence 2 l, y) (λ i. record { refusal = 0; count = 0; handle = record { mode = h .mode; pointer = p i; view = h .view }; file = r })
-
-pub ruleset seeking = (needs, judged-file-view, judged-size, seek-handle, seek-whence, seek-range, seek-done)

@@ -4,7 +4,6 @@ use mathlib.Core.Bool.{Bool, true}
 use mathlib.Core.List.{List}
 use mathlib.Core.Path.{_≡_, refl, sym, ap, _∙_}
 use native.Mathlib.Omega.{arith}
-use borrow.Author.Needs.{needs}
 use borrow.Author.Tests.{leb-true, le-leb, lt-leb}
 use lib.Dec.{leb}
 use lib.IntN.{ℤ, pos}
@@ -96,8 +95,6 @@ module _ (h : Handle) (len : ℕ) (r : FileRecord) (o : ℤ) (c room : ℕ) wher
           end = λ y. e .1 ∙ q;
         }
 
-pub ruleset judging = (needs, judged-access, judged-ranged, judged-past, judged-granted)
-
 -- ---- at an offset
 
 module _ (h : Handle) (file : List ℕ) (r : FileRecord) (o : ℤ) (c : ℕ) (buf : List ℕ) (j : Judgement) (e : WriteJudged h (length file) r o c (length buf) j) where
@@ -131,8 +128,6 @@ module _ (h : Handle) (file : List ℕ) (r : FileRecord) (o : ℤ) (c : ℕ) (bu
       answer = λ i. record { refusal = sym y i; count = sym (granted-yes _ c 0 y) i; handle = h; file = (ap (λ (n : ℕ). withSize r n) (d .size) ∙ sym (granted-yes _ (withSize r (newSize (paper (h .view)) (r .size) (whole o) c)) r y)) i };
       bytes = d .bytes ∙ sym (granted-yes _ _ file y);
     }
-
-pub ruleset writing = (needs, at-refused, at-writable, at-done)
 
 -- ---- at the pointer
 
@@ -188,5 +183,3 @@ module _ (h : Handle) (file : List ℕ) (r : FileRecord) (c : ℕ) (buf : List �
             answer = λ i. record { refusal = sym granted-is i; count = count-is i; handle = (ap (λ (x : ℕ). withPointer h (h .pointer + x)) count-is ∙ sym g) i; file = answer-is i .file };
             bytes = bytes-are;
           }
-
-pub ruleset nexting = (needs, next-refused, pointer-fits, next-done)

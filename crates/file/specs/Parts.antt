@@ -4,10 +4,8 @@ use mathlib.Core.Bool.{Bool, cond}
 use mathlib.Core.Path.{_≡_}
 use lib.Dec.{eqb}
 use lib.IntN.{ℤ}
-use Rattle.laws.specs.Checks.{check, also}
-use Rattle.view.specs.Limits.{pointerAllowed}
+use Rattle.laws.specs.Checks.{check}
 use Rattle.view.specs.Types.{whole}
-use Rattle.view.specs.Rules.{modeAllowed}
 use Rattle.view.specs.End.{endOfFile}
 use Rattle.mover.specs.Moves.{writeEnd}
 use Rattle.file.specs.declared.Handle.{Handle}
@@ -17,10 +15,6 @@ use Rattle.file.specs.declared.Moved.{Moved}
 use Rattle.file.specs.declared.Judgement.{Judgement}
 use Rattle.file.specs.Handles.{viewOf, fileKept}
 use Rattle.file.specs.Refusals.{accessRefusal, writeRefusal}
-
--- a pointer and a mode within their limits
-unfoldable pub limitsKept : ℕ → ℕ → Bool
-limitsKept mode pointer = also (pointerAllowed pointer) (modeAllowed mode)
 
 -- the answer of an open or a set
 abbrev pub openedAs : ℕ → Handle → Opened

@@ -11,7 +11,7 @@ ghost use Rattle.lent.specs.Lists.{lentType, lentView};
 ghost use Rattle.file.specs.Handles.{freshHandle, modeGot, handleKept, fileKept, startOf};
 ghost use Rattle.file.specs.Refusals.{giveBackRefusal};
 ghost use Rattle.file.specs.Answers.{openAnswer, setViewAnswer, givenAs, GaveBack, placeAnswer, reverseAnswer, endAnswer, seekAnswer, ReadAt, ReadNext, WriteAt, WriteNext};
-ghost use Rattle.file.specs.Parts.{limitsKept, openedAs, refusedMove, checkedAccess, WriteJudged, seekBase};
+ghost use Rattle.file.specs.Parts.{openedAs, refusedMove, checkedAccess, WriteJudged, seekBase};
 use view::BytePos;
 use view::Offset;
 use view::Owner;
@@ -212,19 +212,6 @@ fn allows_reading(mode: u64) -> bool
     mode == Handle::MODE_BOTH
 }
 
-// Whether a mode and a pointer are within their limits.
-fn limits_kept(mode: u64, pointer: u64) -> bool
-    ensures { λ r. ⌜ r ≡ limitsKept mode pointer ⌝ }
-{
-    if Handle::MAX_POINTER < pointer {
-        return false;
-    }
-    if mode < Handle::MODE_READING {
-        return false;
-    }
-    mode <= Handle::MODE_BOTH
-}
-
 // The checks of a write: the refusal number, and where a granted one ends.
 struct Judgement {
     refusal: u64,
@@ -257,7 +244,7 @@ impl Handle {
     fn kept(self) -> bool
         ensures { λ r. ⌜ r ≡ handleKept self ⌝ }
     {
-        if !limits_kept(self.mode, self.pointer) {
+        if !limits::limits_kept(self.mode, self.pointer) {
             return false;
         }
         held::parts_keep(
@@ -277,13 +264,10 @@ impl Handle {
     fn file_kept(self, len: u64, rec: FileRecord) -> bool
         ensures { λ r. ⌜ r ≡ fileKept self len rec ⌝ }
     {
-        if !limits_kept(self.mode, self.pointer) {
+        if !limits::limits_kept(self.mode, self.pointer) {
             return false;
         }
-        if Handle::MAX_FILE_LENGTH < len {
-            return false;
-        }
-        if len < rec.size {
+        if !limits::file_allowed(len, rec.size) {
             return false;
         }
         held::parts_keep(
@@ -437,7 +421,7 @@ impl Handle {
                 owner: Owner::Nobody,
             };
         }
-        if !rules::writes(self.mode) {
+        if !limits::writes(self.mode) {
             return Owned {
                 refusal: Handle::REFUSED_MODE,
                 count: 0,
@@ -613,7 +597,7 @@ impl Handle {
     fn write_judged(self, len: u64, rec: FileRecord, o: Offset, count: u64, room: u64) -> Judgement
         ensures { λ r. ⌜ WriteJudged self len rec (o .0) count room r ⌝ }
     {
-        let allowed = rules::writes(self.mode);
+        let allowed = limits::writes(self.mode);
         let refusal = self.access_refusal(allowed, len, rec, o, count, room);
         if refusal != 0 {
             return judged(refusal, 0);

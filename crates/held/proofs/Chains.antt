@@ -6,18 +6,20 @@ use mathlib.Core.Path.{_≡_, sym, ap, _∙_}
 use native.Mathlib.Nat.{mul-le-mul}
 use native.Mathlib.Omega.{arith}
 use borrow.Author.Needs.{length-unmapped}
-use borrow.Author.Tests.{leb-true, le-leb, lt-leb}
+use borrow.Author.Tests.{leb-true}
 use lib.ListN.{length, getD, take}
 use lib.Seq.{getD-take, length-take-le}
 use mir.Syntax.{w64}
 use mir.Val.{Fits}
 use Rattle.laws.specs.Lists.{nth}
 use Rattle.laws.specs.Search.{all}
-use Rattle.laws.proofs.Booleans.{also-inv, also-no, also-yes, within-inv, within-low, within-high, within-yes, unflag-true, unflag-false}
+use Rattle.laws.proofs.Booleans.{also-inv, within-inv, unflag-true, unflag-false}
 use Rattle.laws.proofs.Searching.{all-at, all-same}
 use Rattle.laws.proofs.Sums.{greatest-least}
 use Rattle.view.specs.Rules.{ordered}
-use Rattle.rules.specs.Parts.{entryFits, entryHeld, entryEnd, EntriesKept, OriginsKept, reachOf, reachAt}
+use Rattle.limits.specs.Parts.{entryFits}
+use Rattle.rules.specs.Parts.{entryHeld, entryEnd, EntriesKept, reachOf}
+use Rattle.spacing.specs.Parts.{OriginsKept, reachAt}
 use Rattle.held.specs.Parts.{etypeOf, filetypeOf, etypeHeld, filetypeHeld, ShapeKept}
 
 -- ---- the etype
@@ -130,8 +132,6 @@ module _ (n : ℕ) (ws ds : List ℕ) (k : ℕ) (ps : List ℕ) (x : ℕ) (s : S
 
   pub shape-next : Fits w64 (getD ps 0 0 + getD ds 0 0 + x)
   shape-next = record { fits = omega (arith, first-begin, s .origins .small 0 (s .origins .some), s .extent) }
-
-pub ruleset chain = (le-leb, lt-leb, unflag-true, unflag-false, also-yes, also-no, within-low, within-high, within-yes)
 
 -- ---- what the tests of the etype and the filetype leave for that of overlap
 

@@ -19,7 +19,9 @@ use Rattle.view.specs.Types.{paper, entries, widthAt, displacementAt}
 use Rattle.view.specs.Rules.{entryAllowed, entriesAllowed, ordered, typeOrdered, instances, origin, entryBuilt, built, holesFit, viewHolesFit, nextBegins, entryApart, apart}
 use Rattle.view.proofs.Paper.{paper-entries, paper-file-entries, paper-width, paper-displacement, paper-file-width, paper-file-displacement-read, paper-file-displacement, paper-extent, paper-file-extent, paper-instances, paper-origin}
 use Rattle.view.proofs.Accepted.{type-entry, width-small}
-use Rattle.rules.specs.Parts.{entryFits, entryHeld, entryEnd, reachOf, reachAt, stepAt, originsStep, apartAt}
+use Rattle.limits.specs.Parts.{entryFits}
+use Rattle.rules.specs.Parts.{entryHeld, entryEnd, reachOf, apartAt}
+use Rattle.spacing.specs.Parts.{reachAt, stepAt, originsStep}
 use Rattle.held.specs.Parts.{lastBegins, partsApart, apartHeld}
 use Rattle.held.proofs.Pieces.{holes-same, Linked, inside, across, linked}
 

@@ -19,7 +19,8 @@ use Rattle.view.specs.Limits.{etypeEntriesAllowed, entryDisplacementAllowed, ex
 use Rattle.view.specs.Types.{paper, entries}
 use Rattle.view.specs.Rules.{paired, entryAllowed, entriesAllowed, ordered, typeOrdered, instances, hole, holesFit}
 use Rattle.view.proofs.Paper.{paper-entries, paper-width, paper-displacement-read, paper-displacement}
-use Rattle.rules.specs.Parts.{entryFits, entryHeld}
+use Rattle.limits.specs.Parts.{entryFits}
+use Rattle.rules.specs.Parts.{entryHeld}
 
 -- ---- rules that read only the etype, or only numbers
 

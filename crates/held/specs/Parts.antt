@@ -11,7 +11,8 @@ use Rattle.view.specs.declared.Filetype.{Filetype}
 use Rattle.view.specs.declared.View.{View}
 use Rattle.view.specs.Limits.{maxEtypeEntries, maxFiletypeEntries, maxInstances, maxExtent, maxDisplacement}
 use Rattle.view.specs.Rules.{ordered, holesFit, allowsWriting}
-use Rattle.rules.specs.Parts.{EntriesKept, OriginsKept, apartAt, entryEnd, entryHeld, originsStep, reachAt, reachOf}
+use Rattle.rules.specs.Parts.{EntriesKept, apartAt, entryEnd, entryHeld, reachOf}
+use Rattle.spacing.specs.Parts.{OriginsKept, originsStep, reachAt}
 
 -- ---- the records that parts make up
 

@@ -64,14 +64,14 @@ fn filetype_kept<'a>(
         return false;
     }
     let reach = rules::reach_of(n, widths, displacements);
-    if !rules::instances_fit(k, origins, reach) {
+    if !spacing::instances_fit(k, origins, reach) {
         return false;
     }
     let last = (n - 1) as usize;
-    if !rules::instances_step(k, origins, displacements[last], displacements[0]) {
+    if !spacing::instances_step(k, origins, displacements[last], displacements[0]) {
         return false;
     }
-    rules::holes_fit(k, origins, fx, ex)
+    spacing::holes_fit(k, origins, fx, ex)
 }
 
 // Whether the entries of a filetype of kept shape are apart, those of the next tile too. For our own crates.
@@ -92,7 +92,7 @@ pub fn shape_apart<'a>(
     let last = (n - 1) as usize;
     let end = displacements[last] + widths[last];
     let begin = displacements[0];
-    if !rules::instances_step(k, origins, end, begin) {
+    if !spacing::instances_step(k, origins, end, begin) {
         return false;
     }
     let instance = (k - 1) as usize;
@@ -124,7 +124,7 @@ pub fn parts_keep<'a>(
     if !filetype_kept(n, widths, displacements, ex, k, origins, fx) {
         return false;
     }
-    if !rules::writes(mode) {
+    if !limits::writes(mode) {
         return true;
     }
     shape_apart(n, widths, displacements, k, origins, fx)

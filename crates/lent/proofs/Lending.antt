@@ -1,28 +1,25 @@
--- What the functions of this crate test of one lent number, and how their loops go on.
+-- How the loops of this crate go on, and what the flags of checks 3 to 6 say of the lent lists.
 use Prim.Native.Nat.{ℕ, _^_, _≤_, _<_}
-use mathlib.Core.Bool.{Bool, true, false, not, true≢false}
+use mathlib.Core.Bool.{Bool, true, false, not}
 use mathlib.Core.List.{List}
-use mathlib.Core.Path.{_≡_, refl, sym, ap, _∙_}
-use native.Mathlib.Omega.{arith}
+use mathlib.Core.Path.{_≡_, sym, ap, _∙_}
 use borrow.Author.Needs.{sfits-of}
-use borrow.Author.Tests.{ltb-true, eqb-true, le-leb, eq-eqb, ne-eqb}
-use lib.Dec.{leb}
-use lib.IntN.{ℤ, pos, negsuc}
+use borrow.Author.Tests.{eqb-true, eq-eqb, ne-eqb}
+use lib.IntN.{ℤ, pos}
 use lib.ListN.{length, getD}
-use lib.Signed.{ltZ, mag}
+use lib.Signed.{mag}
 use mir.Syntax.{w64}
 use mir.Val.{SFits, toZ, ofZ, hbits}
 use mir.Facts.{toZ-ofZ}
-use Rattle.laws.specs.Checks.{within}
 use Rattle.laws.specs.Search.{all}
-use Rattle.laws.proofs.Booleans.{tests, check-yes, also-inv, also-yes, also-no, also-false, also-true, within-low, within-high, within-yes, unflag-true, unflag-false}
+use Rattle.laws.proofs.Booleans.{also-inv, also-yes, also-no, unflag-true, unflag-false}
 use Rattle.laws.proofs.Searching.{Passed, passed-fails, passed-holds}
-use Rattle.view.specs.Limits.{widthAllowed, entryDisplacementAllowed, extentAllowed, displacementAllowed}
-use Rattle.view.specs.Types.{entries, widthAt, whole}
+use Rattle.view.specs.Limits.{extentAllowed, displacementAllowed}
+use Rattle.view.specs.Types.{entries, widthAt}
 use Rattle.view.specs.Rules.{nativeName, isNative, entryAllowed, entriesAllowed}
+use Rattle.limits.specs.Parts.{countsAllowed, entryLent}
 use Rattle.lent.specs.Lists.{lentType}
-use Rattle.rules.specs.Parts.{entryFits}
-use Rattle.lent.specs.Parts.{nativeAt, countsAllowed, entryLent, typeLent}
+use Rattle.lent.specs.Parts.{nativeAt, typeLent}
 
 -- ---- the representation
 
@@ -45,67 +42,6 @@ native-fails r i e s l h = also-yes _ _ false (eq-eqb _ _ e) (passed-fails _ i 6
 pub native-holds : (r : List ℕ) (i : ℕ) → length r ≡ 6 → Passed (nativeAt r) i 6 → 6 ≤ i → true ≡ isNative r
 unfolding isNative nativeAt
 native-holds r i e s l = also-yes _ _ true (eq-eqb _ _ e) (passed-holds _ i 6 s l)
-
--- ---- signed numbers, as the machine reads them
-
-negative : (z : ℤ) → ltZ z (pos 0) ≡ true → (n : ℕ) × (z ≡ negsuc n)
-negative (pos n) h = absurd (omega (arith, ltb-true n 0 h))
-negative (negsuc n) h = (n, refl)
-
-natural : (z : ℤ) → ltZ z (pos 0) ≡ false → z ≡ pos (whole z)
-unfolding whole
-natural (pos n) h = refl
-natural (negsuc n) h = absurd (true≢false h)
-
-natural-entry : (z : ℤ) (w n : ℕ) → n ≡ whole z → ltZ z (pos 0) ≡ false → entryFits w n ≡ entryLent w z
-unfolding entryFits entryLent entryDisplacementAllowed whole
-natural-entry (pos d) w n q h = rw q
-natural-entry (negsuc d) w n q h = absurd (true≢false h)
-
-low-extent : (z : ℤ) (n : ℕ) → n ≡ whole z → n < 1 → false ≡ extentAllowed z
-unfolding extentAllowed whole
-low-extent (pos x) n q l = sym (within-low 1 1048576 x (omega arith))
-low-extent (negsuc x) n q l = refl
-
-high-extent : (z : ℤ) (n : ℕ) → n ≡ whole z → 1 ≤ n → leb n 1048576 ≡ extentAllowed z
-unfolding extentAllowed whole within
-high-extent (pos x) n q l = also-yes (leb 1 x) (leb x 1048576) (leb n 1048576) (le-leb 1 x (omega arith)) (rw q)
-high-extent (negsuc x) n q l = absurd (omega arith)
-
-module _ (z : ℤ) (f : SFits w64 z) where
-  read : toZ w64 (ofZ w64 z) ≡ z
-  read = toZ-ofZ f
-
-  module _ (h : ltZ (toZ w64 (ofZ w64 z)) (pos 0) ≡ true) where
-    pub displacement-negative : false ≡ displacementAllowed z
-    unfolding displacementAllowed
-    displacement-negative = let n = negative z (rw read at h) in rw (n .1)
-
-    pub entry-negative : (w : ℕ) → false ≡ entryLent w z
-    unfolding entryLent entryDisplacementAllowed
-    entry-negative w = let n = negative z (rw read at h) in rw (n .1) (sym (also-false (widthAllowed w) false refl))
-
-  module _ (n : ℕ) (e : n ≡ whole (toZ w64 (ofZ w64 z))) where
-    number : n ≡ whole z
-    number = e ∙ ap whole read
-
-    module _ (h : ltZ (toZ w64 (ofZ w64 z)) (pos 0) ≡ false) where
-      pub displacement-is : leb n 1099511627776 ≡ displacementAllowed z
-      unfolding displacementAllowed
-      displacement-is = let q = natural z (rw read at h) in rw (q, number)
-
-      pub entry-is : (w : ℕ) (t : Bool) → t ≡ entryFits w n → t ≡ entryLent w z
-      entry-is w t k = k ∙ natural-entry z w n number (rw read at h)
-
-    pub extent-low : n < 1 → false ≡ extentAllowed z
-    extent-low l = low-extent z n number l
-
-    pub extent-is : 1 ≤ n → leb n 1048576 ≡ extentAllowed z
-    extent-is l = high-extent z n number l
-
--- ---- counts
-
-pub ruleset counting = (tests, also-yes, also-no, within-low, within-high, within-yes)
 
 -- ---- entries
 
@@ -154,5 +90,3 @@ module _ (a b c d : ℕ) (t : Bool) (e : t ≡ countsAllowed a b c d) (n : not t
   pub filetype-pairs : d ≡ c
   unfolding countsAllowed
   filetype-pairs = sym (eqb-true c d (also-inv _ _ (also-inv _ _ (unflag-true t _ e n) .1) .0))
-
-pub ruleset passing = (refl, check-yes, also-true, unflag-true, displacement-yes, extent-yes, entries-yes)

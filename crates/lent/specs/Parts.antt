@@ -7,22 +7,16 @@ use lib.IntN.{ℤ, pos}
 use lib.ListN.{length, getD}
 use Rattle.laws.specs.Checks.{also, check}
 use Rattle.laws.specs.Lists.{nth}
-use Rattle.view.specs.Limits.{widthAllowed, etypeEntriesAllowed, filetypeEntriesAllowed, entryDisplacementAllowed, extentAllowed, displacementAllowed}
+use Rattle.view.specs.Limits.{extentAllowed, displacementAllowed}
 use Rattle.view.specs.Types.{PaperView}
 use Rattle.view.specs.Rules.{nativeName, isNative, entriesAllowed}
+use Rattle.limits.specs.Parts.{countsAllowed, entryLent}
 
 -- byte i of a representation is that of `native`
 unfoldable pub nativeAt : List ℕ → ℕ → Bool
 nativeAt r i = eqb (nth r i) (nth nativeName i)
 
--- both types' lists are n and m long, and these counts are allowed
-unfoldable pub countsAllowed : ℕ → ℕ → ℕ → ℕ → Bool
-countsAllowed ew ed fw fd = also (eqb ew ed) (also (eqb fw fd) (also (etypeEntriesAllowed ew) (filetypeEntriesAllowed ew fw)))
-
--- an entry as it is lent
-unfoldable pub entryLent : ℕ → ℤ → Bool
-entryLent w d = also (widthAllowed w) (entryDisplacementAllowed w d)
-
+-- entry i of a type, as it is lent
 unfoldable pub typeLent : List ℕ → List ℤ → ℕ → Bool
 typeLent ws ds i = entryLent (nth ws i) (getD ds i (pos 0))
 

@@ -2,11 +2,9 @@
 ghost use mathlib.Core.Path.{_≡_};
 ghost use lib.ListN.{length};
 ghost use Rattle.laws.specs.Search.{all};
-ghost use Rattle.view.specs.Limits.{displacementAllowed, extentAllowed};
 ghost use Rattle.view.specs.Rules.{isNative};
 ghost use Rattle.lent.specs.Lists.{lentType, lentView};
-ghost use Rattle.lent.specs.Parts.{countsAllowed, entryLent, typeLent, limitsRefusal};
-use view::View;
+ghost use Rattle.lent.specs.Parts.{typeLent, limitsRefusal};
 
 // Document 01's refusal numbers of these checks.
 pub const REPRESENTATION: u64 = 2;
@@ -40,64 +38,6 @@ fn is_native(representation: &[u8]) -> bool
     true
 }
 
-// Whether a view displacement is in range.
-fn displacement_allowed(d: i64) -> bool
-    ensures { λ r. ⌜ r ≡ displacementAllowed d ⌝ }
-{
-    if d < View::MIN_DISPLACEMENT {
-        return false;
-    }
-    view::natural(d) <= View::MAX_DISPLACEMENT
-}
-
-// Whether an extent is in range. A negative one counts as 0, which is not.
-fn extent_allowed(x: i64) -> bool
-    ensures { λ r. ⌜ r ≡ extentAllowed x ⌝ }
-{
-    let extent = view::natural(x);
-    if extent < View::MIN_EXTENT {
-        return false;
-    }
-    extent <= View::MAX_EXTENT
-}
-
-// Whether each type's two lists have one length, and both entry counts are allowed.
-fn counts_allowed(ew: usize, ed: usize, fw: usize, fd: usize) -> bool
-    ensures { λ r. ⌜ r ≡ countsAllowed ew ed fw fd ⌝ }
-{
-    if ew != ed {
-        return false;
-    }
-    if fw != fd {
-        return false;
-    }
-    let n = ew as u64;
-    if n < View::MIN_ENTRIES {
-        return false;
-    }
-    if View::MAX_ETYPE_ENTRIES < n {
-        return false;
-    }
-    let m = fw as u64;
-    if m < View::MIN_ENTRIES {
-        return false;
-    }
-    if View::MAX_FILETYPE_ENTRIES < m {
-        return false;
-    }
-    m <= View::MAX_INSTANCES * n
-}
-
-// Whether an entry of width `w` at `d` is allowed.
-fn entry_allowed(w: u64, d: i64) -> bool
-    ensures { λ r. ⌜ r ≡ entryLent w d ⌝ }
-{
-    if d < View::MIN_ENTRY_DISPLACEMENT {
-        return false;
-    }
-    rules::entry_fits(w, view::natural(d))
-}
-
 // Whether every entry of a type is allowed.
 fn entries_allowed(ws: &[u64], ds: &[i64]) -> bool
     requires { ⌜ length (now ds) ≡ length (now ws) ⌝ }
@@ -105,7 +45,7 @@ fn entries_allowed(ws: &[u64], ds: &[i64]) -> bool
 {
     let mut i = 0;
     while i < ws.len() {
-        if !entry_allowed(ws[i], ds[i]) {
+        if !limits::entry_allowed(ws[i], ds[i]) {
             return false;
         }
         i += 1;
@@ -128,10 +68,10 @@ pub fn limits_refusal(
     ensures { λ r. ⌜ r ≡ limitsRefusal (now (representation .entry)) (lentView displacement (lentType (now (ew .entry)) (now (ed .entry)) ex) (lentType (now (fw .entry)) (now (fd .entry)) fx)) 0 ⌝ }
 {
     let native = is_native(representation);
-    let placed = displacement_allowed(displacement);
-    let counted = counts_allowed(ew.len(), ed.len(), fw.len(), fd.len());
-    let etype_extent = extent_allowed(ex);
-    let filetype_extent = extent_allowed(fx);
+    let placed = limits::displacement_allowed(displacement);
+    let counted = limits::counts_allowed(ew.len(), ed.len(), fw.len(), fd.len());
+    let etype_extent = limits::extent_allowed(ex);
+    let filetype_extent = limits::extent_allowed(fx);
     if !native {
         return REPRESENTATION;
     }

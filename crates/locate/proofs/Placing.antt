@@ -5,7 +5,6 @@ use mathlib.Core.Logic.{⊎-elim}
 use mathlib.Core.Path.{_≡_, refl, sym, ap, _∙_}
 use native.Mathlib.Nat.{mul-le-mul, div-le-self, mod-lt}
 use native.Mathlib.Omega.{arith}
-use borrow.Author.Needs.{needs}
 use borrow.Author.Tests.{ltb-true, lt-ltb, le-ltb}
 use lib.IntN.{ℤ, pos, negsuc}
 use lib.ListN.{getD}
@@ -207,7 +206,3 @@ module _ (v : View) (k : Kept (paper v)) where
   end-signed size i e hs h =
       let b = greatest-least (endOn v size) i 70368744177729 (λ k l. end-small size k hs (omega (arith, h .reached))) in
       omega (arith, h .is)
-
-pub ruleset placing = (needs, record-some, step-fits, tile-fits, spot-made, origin-scaled, step-inside, step-over, offset-below, spot-kept, spot-placed)
-
-pub ruleset ending = (needs, origin-below, origin-scaled, highest-none, highest-more, end-on, record-few, record-extent, start-fits, end-found, end-signed)

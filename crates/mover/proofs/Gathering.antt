@@ -5,7 +5,6 @@ use mathlib.Core.List.{List, _++_}
 use mathlib.Core.Path.{_≡_, refl, sym, ap, _∙_}
 use native.Mathlib.Nat.{zero-mul}
 use native.Mathlib.Omega.{arith}
-use borrow.Author.Needs.{needs}
 use lib.IntN.{ℤ}
 use lib.ListN.{length, take, drop, length-drop}
 use mir.Syntax.{w64}
@@ -148,5 +147,3 @@ module _ (v : View) (file buf₀ : List ℕ) (size o c S r : ℕ) (buf : List �
         where
           front-from : ℕ → List ℕ
           front-from z = store (λ k. (x - o) * S + k) (byteIn (v .etype .entries) (v .etype .widths) (v .etype .displacements) file p) z buf
-
-pub ruleset gathering = (needs, move-none, move-offset, last-fits, gathering-none, gather-all, walk-fits, walk-kept, walk-held, walk-step, gather-end-fits, gather-stop, from-fits, from-inside, gather-lies, gather-more, entries-kept)

@@ -10,23 +10,13 @@ use lib.ListN.{length, getD}
 use mir.Syntax.{w64}
 use mir.Val.{Fits}
 use Rattle.laws.specs.Lists.{nth}
-use Rattle.laws.proofs.Booleans.{also-false}
 use Rattle.laws.proofs.Sums.{Highest, highest-end}
 use Rattle.laws.proofs.Searching.{Passed, passed-fails, passed-holds, all-intro}
-use Rattle.view.specs.Limits.{widthAllowed}
 use Rattle.view.specs.Rules.{ordered}
-use Rattle.view.proofs.Accepted.{width-small}
-use Rattle.rules.specs.Parts.{entryFits, entryHeld, entryEnd, EntriesKept, OriginsKept, reachOf, reachAt, stepAt, apartAt}
+use Rattle.limits.specs.Parts.{entryFits}
+use Rattle.rules.specs.Parts.{entryHeld, entryEnd, EntriesKept, reachOf, apartAt}
 
 -- ---- one entry
-
--- an entry that begins past the limit ends past it
-pub entry-past : (w d : ℕ) → 1048576 < d → false ≡ entryFits w d
-unfolding entryFits
-entry-past w d h = sym (also-false (widthAllowed w) (leb (d + w) 1048576) (lt-leb (d + w) 1048576 (omega arith)))
-
-pub entry-end-fits : (w d : ℕ) → widthAllowed w ≡ true → d ≤ 1048576 → Fits w64 (d + w)
-entry-end-fits w d h l = record { fits = omega (arith, width-small w h) }
 
 -- the call's flag for entry i is the rule's
 pub entry-true : (ws ds : List ℕ) (i : ℕ) (t : Bool) → t ≡ entryFits (getD ws i 0) (getD ds i 0) → not t ≡ false → entryHeld ws ds i ≡ true
@@ -69,37 +59,6 @@ end-fits n ws ds i k l = record { fits = omega (arith, k .ends i l) }
 pub reach-is : (n : ℕ) (ws ds : List ℕ) (i m : ℕ) → Highest (entryEnd ws ds) i n m → n ≤ i → m ≡ reachOf ws ds n
 unfolding reachOf
 reach-is n ws ds i m h l = highest-end (entryEnd ws ds) i n m h l
-
--- ---- origins
-
--- an origin past the limit, or one within it that the reach carries past it
-pub reach-past : (ps : List ℕ) (reach g : ℕ) → 1048576 < getD ps g 0 → reachAt ps reach g ≡ false
-unfolding reachAt
-reach-past ps reach g h = lt-leb (nth ps g + reach) 1048576 (omega arith)
-
-pub reach-over : (ps : List ℕ) (reach g : ℕ) → 1048576 < getD ps g 0 + reach → reachAt ps reach g ≡ false
-unfolding reachAt
-reach-over ps reach g h = lt-leb _ _ h
-
-pub reach-within : (ps : List ℕ) (reach g : ℕ) → getD ps g 0 + reach ≤ 1048576 → reachAt ps reach g ≡ true
-unfolding reachAt
-reach-within ps reach g h = le-leb _ _ h
-
--- ---- from one instance to the next
-
-pub step-fits : (k : ℕ) (ps : List ℕ) (g a : ℕ) → OriginsKept k ps → g < k - 1 → a ≤ 1048576 → Fits w64 (getD ps g 0 + a)
-step-fits k ps g a o l h = record { fits = omega (arith, o .small g (omega arith)) }
-
-pub next-fits : (k : ℕ) (ps : List ℕ) (g b : ℕ) → OriginsKept k ps → g < k - 1 → b ≤ 1048576 → Fits w64 (getD ps (g + 1) 0 + b)
-next-fits k ps g b o l h = record { fits = omega (arith, o .small (g + 1) (omega arith)) }
-
-pub step-true : (ps : List ℕ) (a b g : ℕ) → getD ps g 0 + a ≤ getD ps (g + 1) 0 + b → stepAt ps a b g ≡ true
-unfolding stepAt
-step-true ps a b g h = le-leb _ _ h
-
-pub step-false : (ps : List ℕ) (a b g : ℕ) → getD ps (g + 1) 0 + b < getD ps g 0 + a → stepAt ps a b g ≡ false
-unfolding stepAt
-step-false ps a b g h = lt-leb _ _ h
 
 -- ---- entries apart
 

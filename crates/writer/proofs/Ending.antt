@@ -5,7 +5,6 @@ use mathlib.Core.Bool.{true}
 use mathlib.Core.Path.{_≡_, sym, ap, _∙_}
 use native.Mathlib.Nat.{add-mul, add-mul-div-right, add-mul-mod-self-right, div-mul-le-self, lt-div-mul-add, mod-lt, min-le-left}
 use native.Mathlib.Omega.{arith}
-use borrow.Author.Needs.{needs}
 use borrow.Author.Tests.{lt-ltb}
 use lib.IntN.{ℤ, pos}
 use mir.Syntax.{w64}
@@ -170,5 +169,3 @@ ending-more v from last r x s end g l p begins m e s' n =
 
 pub ending-fits : (v : View) (from last r x : ℕ) (s : Spot) (end : ℕ) → Ending v from last r x s end → x < last → (p : ℕ) → p ≡ s .tile .0 + nth (v .filetype .origins) (s .instance) → Fits w64 (p + r)
 ending-fits v from last r x s end g l p begins = walk-end-fits v from last x s (g .walk) l p begins r (g .reaches)
-
-pub ruleset ending = (needs, end-none, entries-kept, tail-few, from-fits, tail-fits, from-signed, from-allowed, ending-none, walk-kept, ending-fits, walk-held, walk-step, walk-fits, ending-more, ending-end)

@@ -4,7 +4,6 @@ use mathlib.Core.List.{List}
 use mathlib.Core.Path.{_≡_, refl, sym, ap, _∙_}
 use native.Mathlib.Nat.{zero-mul}
 use native.Mathlib.Omega.{arith}
-use borrow.Author.Needs.{needs}
 use lib.IntN.{ℤ}
 use lib.ListN.{length, take, drop, length-drop}
 use lib.Seq.{getD-drop}
@@ -21,7 +20,8 @@ use Rattle.view.proofs.Held.{record-allowed}
 use Rattle.rules.specs.Parts.{reachOf}
 use Rattle.locate.specs.declared.Spot.{Spot}
 use Rattle.locate.specs.Spots.{SpotAt, nextSpot}
-use Rattle.copier.specs.Parts.{onward, always, sizeOf, placeIn, Lies}
+use Rattle.runs.specs.Parts.{onward, always}
+use Rattle.copier.specs.Parts.{sizeOf, placeIn, Lies}
 use Rattle.mover.specs.Moves.{fileByte, writeEnd, newSize, written}
 use Rattle.mover.proofs.Etypes.{reach, entries-kept, data-is, place-in, data-last}
 use Rattle.mover.proofs.Walking.{file-byte-run, Walking, walk-fits, walk-kept, walk-held, walk-step, walk-more, walk-place, walk-size, walk-room, move-offset, first-is, last-fits, walk-begun}
@@ -119,8 +119,6 @@ module _ (v : View) (buf file₀ : List ℕ) (o c S : ℕ) (file : List ℕ) (x 
               (λ k q. ap (λ (z : ℕ). placeIn (v .etype .entries) (v .etype .widths) (v .etype .displacements) z k) p-is ∙ place-in v (g .walk .kept) x k ∙ ap (λ (z : ℕ). byteOf (paper v) z k) (sym at-x) ∙ sym (file-byte-run (paper v) o (x - o) k q))
               (λ k q. lent k));
         }
-
-pub ruleset scattering = (needs, scatter-none, move-offset, last-fits, scattering-none, scatter-all, walk-fits, walk-kept, walk-held, walk-step, from-fits, from-inside, scatter-lies, scatter-more, entries-kept)
 
 -- ---- a whole write
 

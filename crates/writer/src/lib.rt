@@ -86,7 +86,7 @@ pub fn write(
     ensures { λ r. ⌜ WriteDone v (now (file .entry)) (now (file .exit)) size (o .0) count (now (buf .entry)) r ⌝ }
 {
     let grown = laws::larger(size, end);
-    copier::fill(file, size as usize, grown as usize, GAP_FILL);
+    runs::fill(file, size as usize, grown as usize, GAP_FILL);
     scatter(v, file, o, count, buf);
     grown
 }

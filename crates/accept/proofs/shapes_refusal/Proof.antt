@@ -1,9 +1,10 @@
 -- `shapes_refusal` follows checks 7 to 10 in their order. Assumes nothing.
-use Rattle.laws.proofs.Booleans.{check-no, also-first, also-false, unflag-false}
+use mathlib.Core.Path.{refl}
+use borrow.Author.Needs.{needs}
+use Rattle.laws.proofs.Booleans.{check-yes, check-no, also-true, also-first, also-false, unflag-true, unflag-false}
 use Rattle.held.proofs.Chains.{upto-field, prefix-field}
 use Rattle.accept.specs.Parts.{shapesRefusal}
-use Rattle.accept.proofs.Shaping.{shaping, prefix-no, instances-some, shape-ready, either-unasked, either-apart, either-overlap}
-use borrow.Author.Needs.{needs}
+use Rattle.accept.proofs.Shaping.{prefix-yes, prefix-no, instances-some, shape-ready, either-unasked, either-apart, either-overlap}
 use Rattle.accept.proofs.shapes_refusal.Statement.{statement}
 use Rattle.accept.proofs.shapes_refusal.Tie as tie
 
@@ -15,15 +16,15 @@ slice-aggregate-never-decrease c = search prefix-field
 
 returns : tie.Need-returns
 unfolding shapesRefusal
-returns c = search (shaping, check-no, also-first, prefix-no) depth 12
+returns c = check-no _ _ _ _ (also-first _ _ (search prefix-no)) refl
 
 returns-2 : tie.Need-returns-2
 unfolding shapesRefusal
-returns-2 c = search (shaping, check-no, also-false, unflag-false) depth 12
+returns-2 c = check-no _ _ _ _ (also-false _ _ (search unflag-false)) refl
 
 returns-3 : tie.Need-returns-3
 unfolding shapesRefusal
-returns-3 c = search (shaping, check-no, unflag-false) depth 12
+returns-3 c = check-yes _ _ _ _ (also-true (search prefix-yes) (search unflag-true)) (check-no _ _ _ _ (search unflag-false) refl)
 
 holes-fit-requires : tie.Need-holes-fit-requires
 holes-fit-requires c κs =
@@ -33,11 +34,11 @@ holes-fit-requires c κs =
 
 returns-4 : tie.Need-returns-4
 unfolding shapesRefusal
-returns-4 c = search (shaping, check-no, unflag-false) depth 12
+returns-4 c = check-yes _ _ _ _ (also-true (search prefix-yes) (search unflag-true)) (check-yes _ _ _ _ (search unflag-true) (check-no _ _ _ _ (search unflag-false) refl))
 
 returns-5 : tie.Need-returns-5
 unfolding shapesRefusal
-returns-5 c = search (shaping, either-unasked) depth 12
+returns-5 c = check-yes _ _ _ _ (also-true (search prefix-yes) (search unflag-true)) (check-yes _ _ _ _ (search unflag-true) (check-yes _ _ _ _ (search unflag-true) (check-yes _ _ _ _ (search either-unasked) refl)))
 
 shape-apart-requires : tie.Need-shape-apart-requires
 shape-apart-requires c κs =
@@ -47,11 +48,15 @@ shape-apart-requires c κs =
 
 returns-6 : tie.Need-returns-6
 unfolding shapesRefusal
-returns-6 c = search (shaping, check-no, either-overlap, c .before .before .before .before .before .before .before .before .before .before .before .before .before .before .before .before .before .before .before .before .before .before .before .good .1 .0) depth 12
+returns-6 c =
+    check-yes _ _ _ _ (also-true (search (prefix-yes, c .before .before .before .before .before .before .before .before .before .before .before .before .before .before .before .before .before .before .before .before .before .before .before .good .1 .0)) (search unflag-true))
+    (check-yes _ _ _ _ (search unflag-true) (check-yes _ _ _ _ (search unflag-true) (check-no _ _ _ _ (search either-overlap) refl)))
 
 returns-7 : tie.Need-returns-7
 unfolding shapesRefusal
-returns-7 c = search (shaping, either-apart, c .before .before .before .before .before .before .before .before .before .before .before .before .before .before .before .before .before .before .before .before .before .before .before .good .1 .0) depth 12
+returns-7 c =
+    check-yes _ _ _ _ (also-true (search (prefix-yes, c .before .before .before .before .before .before .before .before .before .before .before .before .before .before .before .before .before .before .before .before .before .before .before .good .1 .0)) (search unflag-true))
+    (check-yes _ _ _ _ (search unflag-true) (check-yes _ _ _ _ (search unflag-true) (check-yes _ _ _ _ (search either-apart) refl)))
 
 pub shapes-refusal-spec : {M : Type 1} → statement M
 shapes-refusal-spec =
@@ -59,15 +64,15 @@ shapes-refusal-spec =
     (tie.spec
     array-share-prefix-displacements
     slice-aggregate-never-decrease
-    (λ c κs. search needs)
+    (λ c κs. tt)
     returns
-    (λ c κs. search needs)
+    (λ c κs. tt)
     returns-2
     (λ c κs. search needs)
     returns-3
     holes-fit-requires
     returns-4
-    (λ c κs. search needs)
+    (λ c κs. tt)
     returns-5
     shape-apart-requires
     returns-6

@@ -3,7 +3,8 @@ use Prim.Native.Nat.{_-_}
 use lib.ListN.{length}
 use Rattle.laws.specs.Lists.{nth}
 use Rattle.copier.specs.Parts.{placeIn}
-use Rattle.copier.proofs.Copying.{Copying, copying-width, packed-inside, in-inside, copying}
+use borrow.Author.Needs.{needs}
+use Rattle.copier.proofs.Copying.{Copying, copying-none, copying-width, copying-scaled, copying-held, file-fits, packed-inside, packed-fits, in-inside, in-more, copying-end}
 use Rattle.copier.proofs.copy_in.Statement.{statement}
 use Rattle.copier.proofs.copy_in.Tie as tie
 
@@ -14,43 +15,34 @@ abbrev μ-loop : tie.MeasureT-loop
 μ-loop entries widths displacements part file₀ n begin taken₀ i₀ file taken i = n - i
 
 loop-holds : tie.Need-loop-holds Inv-loop μ-loop
-loop-holds c = search copying
+loop-holds c = search copying-none
 
 mul-width : tie.Need-mul-width Inv-loop μ-loop
-mul-width c = search copying
+mul-width c = search copying-scaled
 
 element-copy-out-width : tie.Need-element-copy-out-width Inv-loop μ-loop
-element-copy-out-width c = search copying
+element-copy-out-width c = search copying-held
 
 mul-to : tie.Need-mul-to Inv-loop μ-loop
-mul-to c = search copying
+mul-to c = search copying-scaled
 
 element-copy-out-to : tie.Need-element-copy-out-to Inv-loop μ-loop
-element-copy-out-to c = search copying
+element-copy-out-to c = search copying-held
 
 add-to : tie.Need-add-to Inv-loop μ-loop
-add-to c = search copying
+add-to c = search (needs, file-fits)
 
 copy-run-requires : tie.Need-copy-run-requires Inv-loop μ-loop
 copy-run-requires c κs = (record { source = search packed-inside; target = search in-inside }, search copying-width)
 
 add-taken : tie.Need-add-taken Inv-loop μ-loop
-add-taken c = search copying
-
-add-i : tie.Need-add-i Inv-loop μ-loop
-add-i c = search copying
-
-loop-less : tie.Need-loop-less Inv-loop μ-loop
-loop-less c = search copying
+add-taken c = search (needs, packed-fits)
 
 loop-again : tie.Need-loop-again Inv-loop μ-loop
-loop-again c = search copying
-
-same-length : tie.Need-same-length Inv-loop μ-loop
-same-length c = search copying
+loop-again c = search in-more
 
 returns : tie.Need-returns Inv-loop μ-loop
-returns c = search copying
+returns c = search copying-end
 
 pub copy-in-spec : {M : Type 1} → statement M
 copy-in-spec =
@@ -66,8 +58,8 @@ copy-in-spec =
     add-to
     copy-run-requires
     add-taken
-    add-i
-    loop-less
+    (λ c. search needs)
+    (λ c. search needs)
     loop-again
-    same-length
+    (λ c. search needs)
     returns)

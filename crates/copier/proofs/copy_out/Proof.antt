@@ -2,7 +2,8 @@
 use Prim.Native.Nat.{_-_}
 use lib.ListN.{length}
 use Rattle.copier.specs.Parts.{byteIn}
-use Rattle.copier.proofs.Copying.{Copying, copying-width, file-inside, out-inside, copying}
+use borrow.Author.Needs.{needs}
+use Rattle.copier.proofs.Copying.{Copying, copying-none, copying-width, copying-scaled, copying-held, file-inside, file-fits, packed-fits, out-inside, out-more, copying-end}
 use Rattle.copier.proofs.copy_out.Statement.{statement}
 use Rattle.copier.proofs.copy_out.Tie as tie
 
@@ -13,43 +14,34 @@ abbrev μ-loop : tie.MeasureT-loop
 μ-loop entries widths displacements file part₀ n begin packed₀ i₀ part packed i = n - i
 
 loop-holds : tie.Need-loop-holds Inv-loop μ-loop
-loop-holds c = search copying
+loop-holds c = search copying-none
 
 mul-width : tie.Need-mul-width Inv-loop μ-loop
-mul-width c = search copying
+mul-width c = search copying-scaled
 
 element-copy-out-width : tie.Need-element-copy-out-width Inv-loop μ-loop
-element-copy-out-width c = search copying
+element-copy-out-width c = search copying-held
 
 mul-from : tie.Need-mul-from Inv-loop μ-loop
-mul-from c = search copying
+mul-from c = search copying-scaled
 
 element-copy-out-from : tie.Need-element-copy-out-from Inv-loop μ-loop
-element-copy-out-from c = search copying
+element-copy-out-from c = search copying-held
 
 add-from : tie.Need-add-from Inv-loop μ-loop
-add-from c = search copying
+add-from c = search (needs, file-fits)
 
 copy-run-requires : tie.Need-copy-run-requires Inv-loop μ-loop
 copy-run-requires c κs = (record { source = search file-inside; target = search out-inside }, search copying-width)
 
 add-packed : tie.Need-add-packed Inv-loop μ-loop
-add-packed c = search copying
-
-add-i : tie.Need-add-i Inv-loop μ-loop
-add-i c = search copying
-
-loop-less : tie.Need-loop-less Inv-loop μ-loop
-loop-less c = search copying
+add-packed c = search (needs, packed-fits)
 
 loop-again : tie.Need-loop-again Inv-loop μ-loop
-loop-again c = search copying
-
-same-length : tie.Need-same-length Inv-loop μ-loop
-same-length c = search copying
+loop-again c = search out-more
 
 returns : tie.Need-returns Inv-loop μ-loop
-returns c = search copying
+returns c = search copying-end
 
 pub copy-out-spec : {M : Type 1} → statement M
 copy-out-spec =
@@ -65,8 +57,8 @@ copy-out-spec =
     add-from
     copy-run-requires
     add-packed
-    add-i
-    loop-less
+    (λ c. search needs)
+    (λ c. search needs)
     loop-again
-    same-length
+    (λ c. search needs)
     returns)

@@ -1,6 +1,7 @@
 -- `data_size` sums the widths. Assumes nothing.
 use Prim.Native.Nat.{_-_}
-use Rattle.copier.proofs.Copying.{Summed, summing}
+use borrow.Author.Needs.{needs}
+use Rattle.copier.proofs.Copying.{Summed, summed-none, summed-more, summed-end, entry-held, entry-scaled, sum-fits}
 use Rattle.copier.proofs.data_size.Statement.{statement}
 use Rattle.copier.proofs.data_size.Tie as tie
 
@@ -11,28 +12,22 @@ abbrev μ-loop : tie.MeasureT-loop
 μ-loop entries widths n size₀ i₀ size i = n - i
 
 loop-holds : tie.Need-loop-holds Inv-loop μ-loop
-loop-holds c = search summing
+loop-holds c = search summed-none
 
 mul-size : tie.Need-mul-size Inv-loop μ-loop
-mul-size c = search summing
+mul-size c = search entry-scaled
 
 element-copy-out-size : tie.Need-element-copy-out-size Inv-loop μ-loop
-element-copy-out-size c = search summing
+element-copy-out-size c = search entry-held
 
 add-size : tie.Need-add-size Inv-loop μ-loop
-add-size c = search summing
-
-add-i : tie.Need-add-i Inv-loop μ-loop
-add-i c = search summing
-
-loop-less : tie.Need-loop-less Inv-loop μ-loop
-loop-less c = search summing
+add-size c = search sum-fits
 
 loop-again : tie.Need-loop-again Inv-loop μ-loop
-loop-again c = search summing
+loop-again c = search summed-more
 
 returns : tie.Need-returns Inv-loop μ-loop
-returns c = search summing
+returns c = search summed-end
 
 pub data-size-spec : {M : Type 1} → statement M
 data-size-spec =
@@ -44,7 +39,7 @@ data-size-spec =
     mul-size
     element-copy-out-size
     add-size
-    add-i
-    loop-less
+    (λ c. search needs)
+    (λ c. search needs)
     loop-again
     returns)

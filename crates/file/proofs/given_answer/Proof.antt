@@ -1,5 +1,4 @@
 -- `given_answer` has the numbers of a kept view, or zeros. Assumes nothing.
-use borrow.Author.Needs.{needs}
 use Rattle.file.proofs.Returning.{given-none, given-view, all-fits}
 use Rattle.file.proofs.given_answer.Statement.{statement}
 use Rattle.file.proofs.given_answer.Tie as tie
@@ -17,10 +16,10 @@ pub given-answer-spec : {M : Type 1} → statement M
 given-answer-spec =
     tie.close
     (tie.spec
-    (λ c κs. search needs)
-    (λ c κs. search needs)
+    (λ c κs. tt)
+    (λ c κs. tt)
     returns
     mul-all
-    (λ c κs. search needs)
-    (λ c κs. search needs)
+    (λ c κs. tt)
+    (λ c κs. tt)
     returns-2)

@@ -1,13 +1,15 @@
 -- `shape_apart` follows the definition along its tests; no sum of it wraps. Assumes nothing.
+use mathlib.Core.Path.{refl}
+use Rattle.laws.proofs.Booleans.{unflag-true, unflag-false, also-yes, also-no}
 use Rattle.held.specs.Parts.{partsApart}
-use Rattle.held.proofs.Chains.{chain, shape-end, shape-step, shape-tile, shape-first, shape-next}
+use Rattle.held.proofs.Chains.{shape-end, shape-step, shape-tile, shape-first, shape-next}
 use borrow.Author.Needs.{needs}
 use Rattle.held.proofs.shape_apart.Statement.{statement}
 use Rattle.held.proofs.shape_apart.Tie as tie
 
 returns : tie.Need-returns
 unfolding partsApart
-returns c = search chain depth 6
+returns c = also-no _ _ (search unflag-false)
 
 add-end : tie.Need-add-end
 add-end c = search shape-end
@@ -17,7 +19,7 @@ instances-step-requires c κs = search shape-step
 
 returns-2 : tie.Need-returns-2
 unfolding partsApart
-returns-2 c = search chain depth 6
+returns-2 c = also-yes _ _ _ (search unflag-true) (also-no _ _ (search unflag-false))
 
 add-tile-end : tie.Need-add-tile-end
 add-tile-end c = search shape-tile
@@ -30,7 +32,7 @@ add-result c = search (needs, shape-next)
 
 returns-3 : tie.Need-returns-3
 unfolding partsApart
-returns-3 c = search chain depth 6
+returns-3 c = also-yes _ _ _ (search unflag-true) (also-yes _ _ _ (search unflag-true) refl)
 
 pub shape-apart-spec : {M : Type 1} → statement M
 shape-apart-spec =

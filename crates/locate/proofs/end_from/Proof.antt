@@ -1,5 +1,6 @@
 -- `end_from` follows the definition along its one test. Assumes nothing.
-use Rattle.laws.proofs.Booleans.{tests, cond-yes, cond-no}
+use borrow.Author.Tests.{lt-ltb, le-ltb}
+use Rattle.laws.proofs.Booleans.{cond-yes, cond-no}
 use Rattle.locate.proofs.Placing.{before-fits, last-fits, end-fits}
 use Rattle.view.specs.End.{endFrom}
 use borrow.Author.Needs.{needs}
@@ -7,21 +8,21 @@ use Rattle.locate.proofs.end_from.Statement.{statement}
 use Rattle.locate.proofs.end_from.Tie as tie
 
 mul-before : tie.Need-mul-before
-mul-before c = search (tests, cond-yes, cond-no, before-fits, last-fits, end-fits)
+mul-before c = search before-fits
 
 add-last : tie.Need-add-last
-add-last c = search (tests, cond-yes, cond-no, before-fits, last-fits, end-fits)
+add-last c = search last-fits
 
 add-result : tie.Need-add-result
-add-result c = search (tests, cond-yes, cond-no, before-fits, last-fits, end-fits)
+add-result c = search end-fits
 
 returns : tie.Need-returns
 unfolding endFrom
-returns c = search (tests, cond-yes, cond-no, before-fits, last-fits, end-fits)
+returns c = search (cond-yes, lt-ltb)
 
 returns-2 : tie.Need-returns-2
 unfolding endFrom
-returns-2 c = search (tests, cond-yes, cond-no, before-fits, last-fits, end-fits)
+returns-2 c = search (cond-no, le-ltb)
 
 pub end-from-spec : {M : Type 1} → statement M
 end-from-spec =

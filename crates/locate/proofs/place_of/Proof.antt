@@ -1,14 +1,14 @@
 -- `place_of` begins where the spot of its offset says. Assumes nothing.
-use Rattle.locate.proofs.Placing.{placing}
+use Rattle.locate.proofs.Placing.{offset-below, spot-kept, spot-placed}
 use borrow.Author.Needs.{needs}
 use Rattle.locate.proofs.place_of.Statement.{statement}
 use Rattle.locate.proofs.place_of.Tie as tie
 
 begin-at-requires : tie.Need-begin-at-requires
-begin-at-requires c κs = search placing
+begin-at-requires c κs = search (spot-kept, offset-below)
 
 returns : tie.Need-returns
-returns c = search placing
+returns c = search spot-placed
 
 pub place-of-spec : {M : Type 1} → statement M
 place-of-spec =

@@ -1,23 +1,24 @@
 -- `spot_of` divides the offset by the number of instances. Assumes nothing.
-use Rattle.locate.proofs.Placing.{placing}
+use Rattle.view.proofs.Held.{record-some}
+use Rattle.locate.proofs.Placing.{step-fits, tile-fits, spot-made}
 use borrow.Author.Needs.{needs}
 use Rattle.locate.proofs.spot_of.Statement.{statement}
 use Rattle.locate.proofs.spot_of.Tie as tie
 
 div-tile : tie.Need-div-tile
-div-tile c = search placing
+div-tile c = search record-some
 
 mul-step : tie.Need-mul-step
-mul-step c = search placing
+mul-step c = search step-fits
 
 add-begin : tie.Need-add-begin
-add-begin c = search placing
+add-begin c = search tile-fits
 
 rem-instance : tie.Need-rem-instance
-rem-instance c = search placing
+rem-instance c = search record-some
 
 returns : tie.Need-returns
-returns c = search placing
+returns c = search spot-made
 
 pub spot-of-spec : {M : Type 1} → statement M
 spot-of-spec =

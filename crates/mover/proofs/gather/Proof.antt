@@ -1,8 +1,10 @@
 -- `gather` copies each etype that lies in the file and stops at the first that does not. Assumes nothing.
 use Prim.Native.Nat.{_-_}
+use borrow.Author.Needs.{needs}
 use Rattle.copier.proofs.Copying.{widths-kept}
 use Rattle.mover.proofs.Etypes.{entries-kept}
-use Rattle.mover.proofs.Gathering.{Gathering, gather-stop, from-fits, from-inside, gather-lies, gather-more, gathering}
+use Rattle.mover.proofs.Gathering.{Gathering, move-none, gathering-none, gather-all, gather-end-fits, gather-stop, from-fits, from-inside, gather-lies, gather-more}
+use Rattle.mover.proofs.Walking.{walk-fits, walk-kept, walk-held, walk-step, move-offset, last-fits}
 use Rattle.mover.proofs.gather.Statement.{statement}
 use Rattle.mover.proofs.gather.Tie as tie
 
@@ -13,43 +15,31 @@ abbrev μ-loop : tie.MeasureT-loop
 μ-loop file size count buf₀ v packed reach first last spot₀ x₀ buf spot x = last - x
 
 returns : tie.Need-returns Inv-loop μ-loop
-returns c = search gathering
+returns c = search move-none
 
 data-size-requires : tie.Need-data-size-requires Inv-loop μ-loop
 data-size-requires c κs = search (widths-kept, entries-kept)
 
 reach-of-requires : tie.Need-reach-of-requires Inv-loop μ-loop
-reach-of-requires c κs = search gathering
-
-natural-requires : tie.Need-natural-requires Inv-loop μ-loop
-natural-requires c κs = search gathering
+reach-of-requires c κs = search entries-kept
 
 add-last : tie.Need-add-last Inv-loop μ-loop
-add-last c = search gathering
+add-last c = search last-fits
 
 spot-of-requires : tie.Need-spot-of-requires Inv-loop μ-loop
-spot-of-requires c κs = search gathering
+spot-of-requires c κs = search (needs, move-offset)
 
 loop-holds : tie.Need-loop-holds Inv-loop μ-loop
-loop-holds c = search gathering
+loop-holds c = search (needs, gathering-none)
 
 begin-at-requires : tie.Need-begin-at-requires Inv-loop μ-loop
-begin-at-requires c κs = search gathering
+begin-at-requires c κs = search walk-kept
 
 add-end : tie.Need-add-end Inv-loop μ-loop
-add-end c = search gathering
-
-sub-result : tie.Need-sub-result Inv-loop μ-loop
-sub-result c = search gathering
-
-same-length : tie.Need-same-length Inv-loop μ-loop
-same-length c = search gathering
+add-end c = search gather-end-fits
 
 returns-2 : tie.Need-returns-2 Inv-loop μ-loop
 returns-2 c = search gather-stop
-
-sub-from : tie.Need-sub-from Inv-loop μ-loop
-sub-from c = search gathering
 
 mul-from : tie.Need-mul-from Inv-loop μ-loop
 mul-from c =
@@ -63,30 +53,21 @@ part-copy-out-start : tie.Need-part-copy-out-start Inv-loop μ-loop
 part-copy-out-start c =
     from-inside _ _ _ _ _ _ _ _ _ _ _ (c .before .before .before .before .before .before .before .before .before .loop .inv) (c .before .before .before .before .before .before .before .before .loop-test .taken)
 
-part-copy-out-end : tie.Need-part-copy-out-end Inv-loop μ-loop
-part-copy-out-end c = search gathering
-
 copy-out-requires : tie.Need-copy-out-requires Inv-loop μ-loop
 copy-out-requires c κs =
     gather-lies _ _ _ _ _ _ _ _ _ _ _ (c .before .before .before .before .before .before .before .before .before .before .loop .inv) (c .before .before .before .before .before .before .before .before .before .loop-test .taken) _ (c .before .before .before .before .before .before .begin-at .ensures) (c .before .before .before .before .if2 .left)
 
 next-spot-requires : tie.Need-next-spot-requires Inv-loop μ-loop
-next-spot-requires c κs = search gathering
+next-spot-requires c κs = search (walk-held, walk-step)
 
 add-x : tie.Need-add-x Inv-loop μ-loop
-add-x c = search gathering
-
-loop-less : tie.Need-loop-less Inv-loop μ-loop
-loop-less c = search gathering
+add-x c = search walk-fits
 
 loop-again : tie.Need-loop-again Inv-loop μ-loop
 loop-again c = search gather-more
 
-same-length-2 : tie.Need-same-length-2 Inv-loop μ-loop
-same-length-2 c = search gathering
-
 returns-3 : tie.Need-returns-3 Inv-loop μ-loop
-returns-3 c = search gathering
+returns-3 c = search gather-all
 
 pub gather-spec : {M : Type 1} → statement M
 gather-spec =
@@ -97,24 +78,24 @@ gather-spec =
     returns
     data-size-requires
     reach-of-requires
-    natural-requires
+    (λ c κs. tt)
     add-last
     spot-of-requires
     loop-holds
     begin-at-requires
     add-end
-    sub-result
-    same-length
+    (λ c. search needs)
+    (λ c. search needs)
     returns-2
-    sub-from
+    (λ c. search needs)
     mul-from
     sub-copy-out
     part-copy-out-start
-    part-copy-out-end
+    (λ c. search needs)
     copy-out-requires
     next-spot-requires
     add-x
-    loop-less
+    (λ c. search needs)
     loop-again
-    same-length-2
+    (λ c. search needs)
     returns-3)

@@ -1,8 +1,10 @@
 -- `scatter` stores each etype's data at its place; the etype lies in the file, as the write's end does. Assumes nothing.
 use Prim.Native.Nat.{_-_}
+use borrow.Author.Needs.{needs}
 use Rattle.copier.proofs.Copying.{widths-kept}
 use Rattle.mover.proofs.Etypes.{entries-kept}
-use Rattle.writer.proofs.Scattering.{Scattering, from-fits, from-inside, scatter-lies, scatter-more, scattering}
+use Rattle.mover.proofs.Walking.{walk-fits, walk-kept, walk-held, walk-step, move-offset, last-fits}
+use Rattle.writer.proofs.Scattering.{Scattering, scatter-none, scattering-none, scatter-all, from-fits, from-inside, scatter-lies, scatter-more}
 use Rattle.writer.proofs.scatter.Statement.{statement}
 use Rattle.writer.proofs.scatter.Tie as tie
 
@@ -13,61 +15,46 @@ abbrev μ-loop : tie.MeasureT-loop
 μ-loop file₀ count buf v packed first last spot₀ x₀ file spot x = last - x
 
 returns : tie.Need-returns Inv-loop μ-loop
-returns c = search scattering
+returns c = search scatter-none
 
 data-size-requires : tie.Need-data-size-requires Inv-loop μ-loop
 data-size-requires c κs = search (widths-kept, entries-kept)
 
-natural-requires : tie.Need-natural-requires Inv-loop μ-loop
-natural-requires c κs = search scattering
-
 add-last : tie.Need-add-last Inv-loop μ-loop
-add-last c = search scattering
+add-last c = search last-fits
 
 spot-of-requires : tie.Need-spot-of-requires Inv-loop μ-loop
-spot-of-requires c κs = search scattering
+spot-of-requires c κs = search (needs, move-offset)
 
 loop-holds : tie.Need-loop-holds Inv-loop μ-loop
-loop-holds c = search scattering
+loop-holds c = search (needs, scattering-none)
 
 begin-at-requires : tie.Need-begin-at-requires Inv-loop μ-loop
-begin-at-requires c κs = search scattering
-
-sub-from : tie.Need-sub-from Inv-loop μ-loop
-sub-from c = search scattering
+begin-at-requires c κs = search walk-kept
 
 mul-from : tie.Need-mul-from Inv-loop μ-loop
 mul-from c = search from-fits
 
 sub-copy-in : tie.Need-sub-copy-in Inv-loop μ-loop
-sub-copy-in c = search scattering
+sub-copy-in c = search from-inside
 
 part-copy-in-start : tie.Need-part-copy-in-start Inv-loop μ-loop
 part-copy-in-start c = search from-inside
-
-part-copy-in-end : tie.Need-part-copy-in-end Inv-loop μ-loop
-part-copy-in-end c = search scattering
 
 copy-in-requires : tie.Need-copy-in-requires Inv-loop μ-loop
 copy-in-requires c κs = search scatter-lies
 
 next-spot-requires : tie.Need-next-spot-requires Inv-loop μ-loop
-next-spot-requires c κs = search scattering
+next-spot-requires c κs = search (walk-held, walk-step)
 
 add-x : tie.Need-add-x Inv-loop μ-loop
-add-x c = search scattering
-
-loop-less : tie.Need-loop-less Inv-loop μ-loop
-loop-less c = search scattering
+add-x c = search walk-fits
 
 loop-again : tie.Need-loop-again Inv-loop μ-loop
 loop-again c = search scatter-more
 
-same-length : tie.Need-same-length Inv-loop μ-loop
-same-length c = search scattering
-
 returns-2 : tie.Need-returns-2 Inv-loop μ-loop
-returns-2 c = search scattering
+returns-2 c = search scatter-all
 
 pub scatter-spec : {M : Type 1} → statement M
 scatter-spec =
@@ -77,20 +64,20 @@ scatter-spec =
     μ-loop
     returns
     data-size-requires
-    natural-requires
+    (λ c κs. tt)
     add-last
     spot-of-requires
     loop-holds
     begin-at-requires
-    sub-from
+    (λ c. search needs)
     mul-from
     sub-copy-in
     part-copy-in-start
-    part-copy-in-end
+    (λ c. search needs)
     copy-in-requires
     next-spot-requires
     add-x
-    loop-less
+    (λ c. search needs)
     loop-again
-    same-length
+    (λ c. search needs)
     returns-2)

@@ -1,6 +1,5 @@
 -- `fresh` has the default view and pointer 0. Assumes nothing.
 use Rattle.file.proofs.Checking.{fresh-is}
-use borrow.Author.Needs.{needs}
 use Rattle.file.proofs.Handle.fresh.Statement.{statement}
 use Rattle.file.proofs.Handle.fresh.Tie as tie
 
@@ -11,5 +10,5 @@ pub fresh-spec : {M : Type 1} → statement M
 fresh-spec =
     tie.close
     (tie.spec
-    (λ c κs. search needs)
+    (λ c κs. tt)
     returns)

@@ -1,17 +1,17 @@
 -- `reverse` follows checks 1 and 11; what they leave is what `owner_of` requires. Assumes nothing.
-use Rattle.file.proofs.Answering.{reverse-mode, reverse-done, reversing}
-use borrow.Author.Needs.{needs}
+use Rattle.file.proofs.Checking.{judged-view}
+use Rattle.file.proofs.Answering.{reverse-handle, reverse-mode, reverse-done}
 use Rattle.file.proofs.Handle.reverse.Statement.{statement}
 use Rattle.file.proofs.Handle.reverse.Tie as tie
 
 returns : tie.Need-returns
-returns c = search reversing
+returns c = search reverse-handle
 
 returns-2 : tie.Need-returns-2
 returns-2 c = reverse-mode _ _ _ (c .before .before .before .kept .ensures) (c .before .before .if1 .left) _ (c .before .writes .ensures) (c .if2 .taken)
 
 owner-of-requires : tie.Need-owner-of-requires
-owner-of-requires c κs = search reversing
+owner-of-requires c κs = search judged-view
 
 returns-3 : tie.Need-returns-3
 returns-3 c =
@@ -23,9 +23,9 @@ pub reverse-spec : {M : Type 1} → statement M
 reverse-spec =
     tie.close
     (tie.spec
-    (λ c κs. search needs)
+    (λ c κs. tt)
     returns
-    (λ c κs. search needs)
+    (λ c κs. tt)
     returns-2
     owner-of-requires
     returns-3)

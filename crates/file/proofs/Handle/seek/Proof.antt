@@ -1,35 +1,35 @@
 -- `seek` follows checks 1, 15 and 12; the target is the base plus the offset. Assumes nothing.
-use Rattle.file.proofs.Seeking.{seeking}
-use borrow.Author.Needs.{needs}
+use Rattle.file.proofs.Checking.{judged-file-view, judged-size}
+use Rattle.file.proofs.Seeking.{seek-handle, seek-whence, seek-range, seek-done}
 use Rattle.file.proofs.Handle.seek.Statement.{statement}
 use Rattle.file.proofs.Handle.seek.Tie as tie
 
 returns : tie.Need-returns
-returns c = search seeking
+returns c = search seek-handle
 
 seek-base-requires : tie.Need-seek-base-requires
-seek-base-requires c κs = search seeking
+seek-base-requires c κs = (search judged-file-view, search judged-size)
 
 returns-2 : tie.Need-returns-2
-returns-2 c = search seeking
+returns-2 c = search seek-whence
 
 returns-3 : tie.Need-returns-3
-returns-3 c = search seeking
+returns-3 c = search seek-range
 
 returns-4 : tie.Need-returns-4
-returns-4 c = search seeking
+returns-4 c = search seek-done
 
 pub seek-spec : {M : Type 1} → statement M
 seek-spec =
     tie.close
     (tie.spec
-    (λ c κs. search needs)
-    (λ c κs. search needs)
+    (λ c κs. tt)
+    (λ c κs. tt)
     returns
     seek-base-requires
-    (λ c κs. search needs)
-    (λ c κs. search needs)
+    (λ c κs. tt)
+    (λ c κs. tt)
     returns-2
-    (λ c κs. search needs)
+    (λ c κs. tt)
     returns-3
     returns-4)
