@@ -3,13 +3,10 @@ use Prim.Native.Nat.{ℕ, _+_, _*_, _≤_, _<_}
 use mathlib.Core.Bool.{Bool, true, false, not}
 use mathlib.Core.Logic.{⊎-elim}
 use mathlib.Core.Path.{_≡_, refl, sym, ap, _∙_}
-use native.Mathlib.Nat.{mul-le-mul}
 use native.Mathlib.Omega.{arith}
 use borrow.Author.Tests.{leb-true, le-leb, lt-leb}
 use lib.Dec.{leb}
 use lib.IntN.{ℤ, pos}
-use mir.Syntax.{w64}
-use mir.Val.{Fits}
 use Rattle.laws.specs.Checks.{check}
 use Rattle.laws.proofs.Booleans.{lt-or-le, also-no, check-yes, check-no, check-inv, cond-yes, cond-no, unflag-true, unflag-false}
 use Rattle.view.specs.Limits.{pointerAllowed}
@@ -17,6 +14,7 @@ use Rattle.view.specs.Types.{paper, whole}
 use Rattle.view.specs.Places.{dataSize}
 use Rattle.limits.proofs.Numbers.{pointer-high}
 use Rattle.ranges.specs.Ranges.{accessAllowed}
+use Rattle.ranges.specs.Parts.{accessChecked}
 use Rattle.ranges.proofs.Ranging.{access-sum, access-offset}
 use Rattle.copier.specs.Parts.{WidthsKept, sizeOf}
 use Rattle.copier.proofs.Copying.{widths-kept}
@@ -31,16 +29,6 @@ use Rattle.file.proofs.Checking.{judged-file-view, file-kept-view, file
 
 -- ---- the checks
 
--- S, and c·S, which fits where check 12 bounds c
-module _ (h : Handle) (len : ℕ) (r : FileRecord) (o : ℤ) (c : ℕ) (t : Bool) (k : t ≡ fileKept h len r) (n : not t ≡ false) (s : ℕ) (e : s ≡ sizeOf (h .view .etype .entries) (h .view .etype .widths)) where
-  size-is : s ≡ dataSize (paper (h .view))
-  size-is = e ∙ data-is (h .view) (judged-file-view h len r t k n)
-
-  pub bytes-fit : (w : Bool) → w ≡ accessAllowed o c → not w ≡ false → Fits w64 (c * s)
-  bytes-fit w b q =
-      let m = mul-le-mul {n₁ = c} {m₁ = s} {n₂ = 4294967296} {m₂ = 64} (omega (arith, access-sum o c (unflag-true w _ b q))) (omega (arith, size-is, data-small (h .view) (judged-file-view h len r t k n))) in
-      record { fits = omega arith }
-
 module _ (u : Bool) (h : Handle) (len : ℕ) (r : FileRecord) (o : ℤ) (c room : ℕ) (t : Bool) (k : t ≡ fileKept h len r) where
   pub access-handle : not t ≡ true → 1 ≡ checkedAccess u h len r o c room
   unfolding checkedAccess
@@ -50,23 +38,17 @@ module _ (u : Bool) (h : Handle) (len : ℕ) (r : FileRecord) (o : ℤ) (c room 
     pub access-widths : WidthsKept (h .view .etype .entries) (h .view .etype .widths)
     access-widths = widths-kept _ _ _ (entries-kept (h .view) (judged-file-view h len r t k n))
 
-    pub access-mode : not u ≡ true → 11 ≡ checkedAccess u h len r o c room
-    unfolding checkedAccess
-    access-mode m = check-yes _ 1 _ 11 (unflag-true t _ k n) (check-no _ 11 _ 11 (unflag-false u _ refl m) refl)
+    -- S
+    module _ (s : ℕ) (e : s ≡ sizeOf (h .view .etype .entries) (h .view .etype .widths)) where
+      size-is : s ≡ dataSize (paper (h .view))
+      size-is = e ∙ data-is (h .view) (judged-file-view h len r t k n)
 
-    module _ (m : not u ≡ false) (w : Bool) (b : w ≡ accessAllowed o c) where
-      pub access-range : not w ≡ true → 12 ≡ checkedAccess u h len r o c room
-      unfolding checkedAccess accessRefusal
-      access-range q = check-yes _ 1 _ 12 (unflag-true t _ k n) (check-yes _ 11 _ 12 (unflag-true u _ refl m) (check-no _ 12 _ 12 (unflag-false w _ b q) refl))
+      pub access-small : s ≤ 64
+      access-small = omega (arith, size-is, data-small (h .view) (judged-file-view h len r t k n))
 
-      module _ (q : not w ≡ false) (s : ℕ) (e : s ≡ sizeOf (h .view .etype .entries) (h .view .etype .widths)) where
-        pub access-room : room < c * s → 13 ≡ checkedAccess u h len r o c room
-        unfolding checkedAccess accessRefusal viewOf
-        access-room l = check-yes _ 1 _ 13 (unflag-true t _ k n) (check-yes _ 11 _ 13 (unflag-true u _ refl m) (check-yes _ 12 _ 13 (unflag-true w _ b q) (check-no _ 13 _ 13 (lt-leb (c * dataSize (paper (h .view))) room (rw (size-is h len r o c t k n s e) at l)) refl)))
-
-        pub access-granted : c * s ≤ room → 0 ≡ checkedAccess u h len r o c room
-        unfolding checkedAccess accessRefusal viewOf
-        access-granted l = check-yes _ 1 _ 0 (unflag-true t _ k n) (check-yes _ 11 _ 0 (unflag-true u _ refl m) (check-yes _ 12 _ 0 (unflag-true w _ b q) (check-yes _ 13 _ 0 (le-leb (c * dataSize (paper (h .view))) room (rw (size-is h len r o c t k n s e) at l)) refl)))
+      pub access-judged : (m : ℕ) → m ≡ accessChecked u o c s room → m ≡ checkedAccess u h len r o c room
+      unfolding checkedAccess accessRefusal accessChecked viewOf
+      access-judged m q = check-yes _ 1 _ m (unflag-true t _ k n) (q ∙ ap (λ (z : ℕ). check u 11 (check (accessAllowed o c) 12 (check (leb (c * z) room) 13 0))) size-is)
 
 -- ---- what they leave
 

@@ -5,19 +5,20 @@ use mathlib.Core.List.{List}
 use mathlib.Core.Path.{_≡_, refl, sym, _∙_, ap}
 use native.Mathlib.Nat.{mul-le-mul}
 use native.Mathlib.Omega.{arith}
-use borrow.Author.Tests.{leb-true, le-leb, lt-leb}
+use borrow.Author.Tests.{leb-true}
 use lib.Dec.{leb}
 use lib.IntN.{ℤ}
 use lib.ListN.{length}
 use mir.Syntax.{w64}
 use mir.Val.{Fits}
 use Rattle.laws.specs.Checks.{also, granted}
-use Rattle.laws.proofs.Booleans.{also-true, also-first, also-false, also-inv, check-yes, check-no, check-inv, granted-no, unflag-true, unflag-false}
+use Rattle.laws.proofs.Booleans.{also-inv, check-yes, check-no, check-inv, granted-no, unflag-true, unflag-false}
 use Rattle.view.specs.declared.View.{View}
 use Rattle.view.specs.Types.{paper, entries, extentOf, whole}
 use Rattle.view.specs.Rules.{Kept}
 use Rattle.view.proofs.Paper.{paper-entries, paper-file-entries, paper-extent, paper-file-extent, paper-start}
 use Rattle.view.proofs.Held.{record-few}
+use Rattle.ranges.specs.Parts.{listsLong}
 use Rattle.given.specs.Giving.{Ready, GivenBack}
 use Rattle.mover.proofs.Etypes.{entries-kept}
 use Rattle.file.specs.declared.Handle.{Handle}
@@ -35,44 +36,31 @@ entries-fit v k =
     let m = mul-le-mul {n₁ = v .filetype .instances} {m₁ = v .etype .entries} {n₂ = 64} {m₂ = 8} (record-few v k) (entries-kept v k .few) in
     record { fits = omega arith }
 
+module _ (h : Handle) (t : Bool) (k : t ≡ handleKept h) (n : not t ≡ false) where
+  pub give-entries : h .view .etype .entries ≤ 8
+  give-entries = entries-kept (h .view) (judged-view h t k n) .few
+
+  pub give-instances : h .view .filetype .instances ≤ 64
+  give-instances = record-few (h .view) (judged-view h t k n)
+
 module _ (h : Handle) (ew ed fw fd : ℕ) (t : Bool) (k : t ≡ handleKept h) where
   pub give-handle : not t ≡ true → 1 ≡ giveBackRefusal h ew ed fw fd
   unfolding giveBackRefusal
   give-handle n = check-no _ 1 _ 1 (unflag-false t _ k n) refl
 
   module _ (n : not t ≡ false) where
-    pub give-fits : Fits w64 (h .view .filetype .instances * h .view .etype .entries)
-    give-fits = entries-fit (h .view) (judged-view h t k n)
+    module _ (u : Bool) (e : u ≡ listsLong (h .view .etype .entries) (h .view .filetype .instances) ew ed fw fd) where
+      long-is : u ≡ also (leb (entries (viewOf h .etype)) ew) (also (leb (entries (viewOf h .etype)) ed) (also (leb (entries (viewOf h .filetype)) fw) (leb (entries (viewOf h .filetype)) fd)))
+      unfolding listsLong viewOf
+      long-is = rw (paper-entries (h .view), paper-file-entries (h .view)) e
 
-    short : also (leb (entries (viewOf h .etype)) ew) (also (leb (entries (viewOf h .etype)) ed) (also (leb (entries (viewOf h .filetype)) fw) (leb (entries (viewOf h .filetype)) fd))) ≡ false → 13 ≡ giveBackRefusal h ew ed fw fd
-    unfolding giveBackRefusal
-    short e = check-yes _ 1 _ 13 (unflag-true t _ k n) (check-no _ 13 _ 13 e refl)
+      pub give-short : not u ≡ true → 13 ≡ giveBackRefusal h ew ed fw fd
+      unfolding giveBackRefusal
+      give-short m = check-yes _ 1 _ 13 (unflag-true t _ k n) (check-no _ 13 _ 13 (unflag-false u _ long-is m) refl)
 
-    etype-is : entries (viewOf h .etype) ≡ h .view .etype .entries
-    unfolding viewOf
-    etype-is = paper-entries (h .view)
-
-    filetype-is : entries (viewOf h .filetype) ≡ h .view .filetype .instances * h .view .etype .entries
-    unfolding viewOf
-    filetype-is = paper-file-entries (h .view)
-
-    pub short-1 : ew < h .view .etype .entries → 13 ≡ giveBackRefusal h ew ed fw fd
-    short-1 l = short (also-first _ _ (lt-leb _ ew (omega (arith, etype-is))))
-
-    pub short-2 : ed < h .view .etype .entries → 13 ≡ giveBackRefusal h ew ed fw fd
-    short-2 l = short (also-false _ _ (also-first _ _ (lt-leb _ ed (omega (arith, etype-is)))))
-
-    pub short-3 : fw < h .view .filetype .instances * h .view .etype .entries → 13 ≡ giveBackRefusal h ew ed fw fd
-    short-3 l = short (also-false _ _ (also-false _ _ (also-first _ _ (lt-leb _ fw (omega (arith, filetype-is))))))
-
-    pub short-4 : fd < h .view .filetype .instances * h .view .etype .entries → 13 ≡ giveBackRefusal h ew ed fw fd
-    short-4 l = short (also-false _ _ (also-false _ _ (also-false _ _ (lt-leb _ fd (omega (arith, filetype-is))))))
-
-    pub give-granted : h .view .etype .entries ≤ ew → h .view .etype .entries ≤ ed → h .view .filetype .instances * h .view .etype .entries ≤ fw → h .view .filetype .instances * h .view .etype .entries ≤ fd → 0 ≡ giveBackRefusal h ew ed fw fd
-    unfolding giveBackRefusal
-    give-granted a b c d =
-        check-yes _ 1 _ 0 (unflag-true t _ k n)
-        (check-yes _ 13 _ 0 (also-true (le-leb _ ew (omega (arith, etype-is))) (also-true (le-leb _ ed (omega (arith, etype-is))) (also-true (le-leb _ fw (omega (arith, filetype-is))) (le-leb _ fd (omega (arith, filetype-is)))))) refl)
+      pub give-granted : not u ≡ false → 0 ≡ giveBackRefusal h ew ed fw fd
+      unfolding giveBackRefusal
+      give-granted m = check-yes _ 1 _ 0 (unflag-true t _ k n) (check-yes _ 13 _ 0 (unflag-true u _ long-is m) refl)
 
 -- ---- the answer
 

@@ -2,20 +2,22 @@
 use Prim.Native.Nat.{ℕ, _≤_, _<_}
 use mathlib.Core.Bool.{Bool, true, false, not, cond}
 use mathlib.Core.Path.{_≡_, refl, sym, ap, _∙_}
-use borrow.Author.Tests.{eq-eqb, ne-eqb, le-leb, lt-leb}
-use lib.Dec.{eqb}
+use native.Mathlib.Omega.{arith}
+use borrow.Author.Tests.{eq-eqb, ne-eqb}
+use lib.Dec.{leb, eqb}
 use lib.IntN.{ℤ, pos, _+ℤ_}
 use mir.Syntax.{w64}
 use mir.Val.{SFits, toZ, ofZ}
 use mir.Facts.{toZ-ofZ}
 use Rattle.laws.specs.Checks.{check, granted}
-use Rattle.laws.proofs.Booleans.{cond-yes, cond-no, unflag-true, unflag-false}
+use Rattle.laws.proofs.Booleans.{check-yes, check-inv, granted-yes, granted-no, cond-yes, cond-no, unflag-true, unflag-false}
 use Rattle.view.specs.declared.Offset.{Offset}
 use Rattle.view.specs.Types.{paper, whole}
 use Rattle.view.specs.Rules.{Kept}
 use Rattle.view.specs.End.{endOfFile}
 use Rattle.ranges.specs.declared.Target.{Target}
 use Rattle.ranges.specs.Ranges.{targetAllowed, targetAt}
+use Rattle.ranges.specs.Parts.{seekChecked}
 use Rattle.ranges.proofs.Ranging.{zero-plus}
 use Rattle.locate.proofs.Placing.{end-bound}
 use Rattle.file.specs.declared.Handle.{Handle}
@@ -60,29 +62,32 @@ module _ (h : Handle) (len : ℕ) (r : FileRecord) (z : ℤ) (whence : ℕ) (t :
   unfolding seekAnswer seekRefusal check granted
   seek-handle n m e = rw (unflag-false t _ k n) e
 
-  module _ (n : not t ≡ false) where
-    pub seek-whence : 2 < whence → (m : Moved) → m ≡ refusedMove 15 h r → m ≡ seekAnswer h len r z whence
-    unfolding seekAnswer seekRefusal check granted
-    seek-whence l m e = rw (unflag-true t _ k n, lt-leb whence 2 l) e
+  module _ (n : not t ≡ false) (s : SFits w64 z) (base : ℕ) (b : base ≡ seekBase h r whence) (g : Target) (a : g ≡ targetAt (pos base +ℤ toZ w64 (ofZ w64 z))) (m : ℕ) (c : m ≡ seekChecked whence (g .allowed)) where
+    aims : pos base +ℤ toZ w64 (ofZ w64 z) ≡ seekTarget h r z whence
+    aims = ap (λ (x : ℤ). pos base +ℤ x) (toZ-ofZ s) ∙ ap (λ (x : ℕ). pos x +ℤ z) b ∙ sym (target-is h r z whence)
 
-    module _ (l : whence ≤ 2) (s : SFits w64 z) (base : ℕ) (b : base ≡ seekBase h r whence) (g : Target) (a : g ≡ targetAt (pos base +ℤ toZ w64 (ofZ w64 z))) where
-      aims : pos base +ℤ toZ w64 (ofZ w64 z) ≡ seekTarget h r z whence
-      aims = ap (λ (x : ℤ). pos base +ℤ x) (toZ-ofZ s) ∙ ap (λ (x : ℕ). pos x +ℤ z) b ∙ sym (target-is h r z whence)
+    goes : g ≡ targetAt (seekTarget h r z whence)
+    goes = a ∙ ap targetAt aims
 
-      goes : g ≡ targetAt (seekTarget h r z whence)
-      goes = a ∙ ap targetAt aims
+    allowed-is : g .allowed ≡ targetAllowed (seekTarget h r z whence)
+    unfolding targetAt
+    allowed-is = ap (λ x. x .allowed) goes
 
-      allowed-is : g .allowed ≡ targetAllowed (seekTarget h r z whence)
-      unfolding targetAt
-      allowed-is = ap (λ x. x .allowed) goes
+    refusal-is : m ≡ seekRefusal h len r z whence
+    unfolding seekChecked seekRefusal
+    refusal-is = check-yes _ 1 _ m (unflag-true t _ k n) (c ∙ ap (λ (x : Bool). check (leb whence 2) 15 (check x 12 0)) allowed-is)
 
-      pub seek-range : not (g .allowed) ≡ true → (m : Moved) → m ≡ refusedMove 12 h r → m ≡ seekAnswer h len r z whence
-      unfolding seekAnswer seekRefusal check granted
-      seek-range u m e = rw (unflag-true t _ k n, le-leb whence 2 l, unflag-false (g .allowed) _ allowed-is u) e
+    pub seek-refused : (m ≡ 0 → ⊥) → (d : Moved) → d ≡ refusedMove m h r → d ≡ seekAnswer h len r z whence
+    unfolding seekAnswer
+    seek-refused y d e =
+        let f = granted-no _ (withPointer h (whole (seekTarget h r z whence))) h (λ q. y (refusal-is ∙ q)) in
+        e ∙ (λ i. record { refusal = refusal-is i; count = 0; handle = sym f i; file = r })
 
-      pub seek-done : not (g .allowed) ≡ false → record { refusal = 0; count = 0; handle = record { mode = h .mode; pointer = g .pointer; view = h .view }; file = r } ≡ seekAnswer h len r z whence
-      unfolding seekAnswer seekRefusal check granted withPointer targetAt
-      seek-done u =
-          let y = unflag-true (g .allowed) _ allowed-is u in
-          let p : g .pointer ≡ whole (seekTarget h r z whence) = rw y at (ap (λ x. x .pointer) goes) in
-          rw (unflag-true t _ k n, le-leb whence 2 l, y) (λ i. record { refusal = 0; count = 0; handle = record { mode = h .mode; pointer = p i; view = h .view }; file = r })
+    pub seek-done : m ≡ 0 → record { refusal = 0; count = 0; handle = record { mode = h .mode; pointer = g .pointer; view = h .view }; file = r } ≡ seekAnswer h len r z whence
+    unfolding seekAnswer seekChecked withPointer targetAt
+    seek-done y =
+        let q : seekRefusal h len r z whence ≡ 0 = sym refusal-is ∙ y in
+        let f = granted-yes _ (withPointer h (whole (seekTarget h r z whence))) h q in
+        let w = sym allowed-is ∙ check-inv _ 12 _ (omega arith) (check-inv _ 15 _ (omega arith) (sym c ∙ y) .1) .0 in
+        let p : g .pointer ≡ whole (seekTarget h r z whence) = rw w at (ap (λ x. x .pointer) goes) in
+        λ i. record { refusal = sym q i; count = 0; handle = (ap (withPointer h) p ∙ sym f) i; file = r }

@@ -42,20 +42,20 @@ impl Handle {
 
     pub const SEEK_CURRENT: u64 = 1;
 
-    pub const SEEK_END: u64 = 2;
+    pub const SEEK_END: u64 = ranges::LAST_WHENCE;
 
     // Document 01's refusal numbers of the calls; those of a set, 2 to 10, stand with their checks.
     pub const REFUSED_HANDLE: u64 = 1;
 
-    pub const REFUSED_MODE: u64 = 11;
+    pub const REFUSED_MODE: u64 = ranges::MODE;
 
-    pub const REFUSED_RANGE: u64 = 12;
+    pub const REFUSED_RANGE: u64 = ranges::RANGE;
 
-    pub const REFUSED_ROOM: u64 = 13;
+    pub const REFUSED_ROOM: u64 = ranges::ROOM;
 
     pub const REFUSED_LENGTH: u64 = 14;
 
-    pub const REFUSED_WHENCE: u64 = 15;
+    pub const REFUSED_WHENCE: u64 = ranges::WHENCE;
 
     pub const REFUSED_OPEN: u64 = 16;
 }
@@ -338,17 +338,8 @@ impl Handle {
             return Handle::REFUSED_HANDLE;
         }
         let entries = self.view.etype.entries;
-        let all = self.view.filetype.instances * entries;
-        if ew < entries {
-            return Handle::REFUSED_ROOM;
-        }
-        if ed < entries {
-            return Handle::REFUSED_ROOM;
-        }
-        if fw < all {
-            return Handle::REFUSED_ROOM;
-        }
-        if fd < all {
+        let instances = self.view.filetype.instances;
+        if !ranges::lists_long(entries, instances, ew, ed, fw, fd) {
             return Handle::REFUSED_ROOM;
         }
         0
@@ -487,11 +478,9 @@ impl Handle {
             return refused(Handle::REFUSED_HANDLE, self, rec);
         }
         let target = ranges::target_of(self.seek_base(rec, whence), by);
-        if Handle::SEEK_END < whence {
-            return refused(Handle::REFUSED_WHENCE, self, rec);
-        }
-        if !target.allowed {
-            return refused(Handle::REFUSED_RANGE, self, rec);
+        let refusal = ranges::seek_refusal(whence, target.allowed);
+        if refusal != 0 {
+            return refused(refusal, self, rec);
         }
         self.pointer = target.pointer;
         Moved {
@@ -514,23 +503,11 @@ impl Handle {
     ) -> u64
         ensures { λ r. ⌜ r ≡ checkedAccess allowed self len rec (o .0) count room ⌝ }
     {
-        let kept = self.file_kept(len, rec);
-        let ranged = ranges::access_allowed(o, count);
-        if !kept {
+        if !self.file_kept(len, rec) {
             return Handle::REFUSED_HANDLE;
         }
-        if !allowed {
-            return Handle::REFUSED_MODE;
-        }
-        if !ranged {
-            return Handle::REFUSED_RANGE;
-        }
         let packed = copier::data_size(self.view.etype.entries, &self.view.etype.widths);
-        let bytes = count * packed;
-        if room < bytes {
-            return Handle::REFUSED_ROOM;
-        }
-        0
+        ranges::access_refusal(allowed, o, count, packed, room)
     }
 
     // Reads `count` etypes at offset `o` into the buffer; a read that reaches past the size moves fewer. The pointer stays.

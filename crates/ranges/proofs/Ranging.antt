@@ -1,8 +1,9 @@
 -- Laws of the ranges: what callers get of them, and how the code tests them.
-use Prim.Native.Nat.{ℕ, suc, _+_, _-_, _≤_, _<_}
-use mathlib.Core.Bool.{true, false, true≢false}
+use Prim.Native.Nat.{ℕ, suc, _+_, _-_, _*_, _≤_, _<_}
+use mathlib.Core.Bool.{Bool, true, false, not, true≢false}
 use mathlib.Core.Logic.{⊎-elim}
 use mathlib.Core.Path.{_≡_, refl, sym, ap, _∙_}
+use native.Mathlib.Nat.{mul-le-mul}
 use native.Mathlib.Omega.{arith}
 use borrow.Author.Needs.{needs}
 use borrow.Author.Tests.{ltb-true, leb-true, le-ltb, lt-ltb, le-leb, lt-leb}
@@ -12,7 +13,7 @@ use lib.Signed.{ltZ}
 use mir.Syntax.{w64}
 use mir.Val.{Fits, SFits, toZ, ofZ}
 use mir.Facts.{toZ-ofZ}
-use Rattle.laws.proofs.Booleans.{not-both, lt-or-le}
+use Rattle.laws.proofs.Booleans.{not-both, lt-or-le, unflag-true}
 use Rattle.view.specs.Limits.{offsetAllowed, pointerAllowed}
 use Rattle.view.specs.Types.{whole}
 use Rattle.ranges.specs.declared.Target.{Target}
@@ -177,3 +178,14 @@ module _ (base m : ℕ) (z : ℤ) (t : Target) (f : SFits w64 z) where
   sought-above e h q = q ∙ seek-above base m z (e ∙ ap whole (toZ-ofZ f)) (rw (toZ-ofZ f) at h)
 
 pub ruleset seeking = (needs, sought-below, sought-above)
+
+-- ---- products
+
+-- check 12 bounds the count of an access
+pub bytes-fit : (z : ℤ) (c s : ℕ) (t : Bool) → t ≡ accessAllowed z c → not t ≡ false → s ≤ 64 → Fits w64 (c * s)
+bytes-fit z c s t e n l =
+    let m = mul-le-mul {n₁ = c} {m₁ = s} {n₂ = 4294967296} {m₂ = 64} (omega (arith, access-sum z c (unflag-true t _ e n))) l in
+    record { fits = omega arith }
+
+pub counts-fit : (n k : ℕ) → n ≤ 8 → k ≤ 64 → Fits w64 (k * n)
+counts-fit n k a b = let m = mul-le-mul {n₁ = k} {m₁ = n} {n₂ = 64} {m₂ = 8} b a in record { fits = omega arith }

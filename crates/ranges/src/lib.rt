@@ -1,13 +1,26 @@
-// Check 12 of document 01 for accesses and for seek, on numbers. No sum or difference wraps, whatever the numbers.
+// Checks 11, 12, 13 and 15 of document 01 for accesses, seek and giving back, on numbers. No sum, product or difference wraps.
 ghost use mathlib.Core.Bool.{true};
 ghost use mathlib.Core.Path.{_≡_};
-ghost use Prim.Native.Nat.{_+_};
+ghost use Prim.Native.Nat.{_+_, _≤_};
 ghost use lib.IntN.{pos, natAbs, subℕ, _+ℤ_};
 ghost use lib.Signed.{ltZ};
-ghost use Rattle.view.specs.Limits.{offsetAllowed};
+ghost use Rattle.view.specs.Limits.{maxEtypeEntries, maxInstances, offsetAllowed};
 ghost use Rattle.ranges.specs.Ranges.{accessAllowed, targetAt};
+ghost use Rattle.ranges.specs.Parts.{maxDataSize, accessChecked, seekChecked, listsLong};
 use view::Offset;
 use view::View;
+
+// Document 01's refusal numbers of these checks.
+pub const MODE: u64 = 11;
+
+pub const RANGE: u64 = 12;
+
+pub const ROOM: u64 = 13;
+
+pub const WHENCE: u64 = 15;
+
+// Whence 0 sets, 1 adds to the pointer, 2 adds to the end of file.
+pub const LAST_WHENCE: u64 = 2;
 
 // Where a seek goes: whether the pointer may stand there, and the pointer if so, else 0.
 pub struct Target {
@@ -92,4 +105,54 @@ pub fn target_of(base: u64, by: i64) -> Target
     } else {
         target_above(base, view::natural(by))
     }
+}
+
+// Checks 11, 12 and 13 of an access that the mode allows or not, where an etype has `packed` data bytes and the buffer has `room`. For our own crates.
+pub fn access_refusal(allowed: bool, o: Offset, count: u64, packed: u64, room: u64) -> u64
+    requires { ⌜ packed ≤ maxDataSize ⌝ }
+    ensures { λ r. ⌜ r ≡ accessChecked allowed (o .0) count packed room ⌝ }
+{
+    let ranged = access_allowed(o, count);
+    if !allowed {
+        return MODE;
+    }
+    if !ranged {
+        return RANGE; // the access's
+    }
+    let bytes = count * packed;
+    if room < bytes {
+        return ROOM;
+    }
+    0
+}
+
+// Checks 15 and 12 of a seek whose target is within the range or not.
+pub fn seek_refusal(whence: u64, within: bool) -> u64
+    ensures { λ r. ⌜ r ≡ seekChecked whence within ⌝ }
+{
+    if LAST_WHENCE < whence {
+        return WHENCE;
+    }
+    if !within {
+        return RANGE; // the target's
+    }
+    0
+}
+
+// Check 13 of giving back: whether the four lists, by their lengths, have room for `n` entries of the etype and `k` times as many of the filetype. For our own crates.
+pub fn lists_long(n: u64, k: u64, ew: u64, ed: u64, fw: u64, fd: u64) -> bool
+    requires { ⌜ (n ≤ maxEtypeEntries) × (k ≤ maxInstances) ⌝ }
+    ensures { λ r. ⌜ r ≡ listsLong n k ew ed fw fd ⌝ }
+{
+    let all = k * n;
+    if ew < n {
+        return false;
+    }
+    if ed < n {
+        return false;
+    }
+    if fw < all {
+        return false;
+    }
+    all <= fd
 }
