@@ -1,4 +1,3 @@
-pub mod Giving
 pub mod Owners
 pub mod Granted
 pub mod Pairs

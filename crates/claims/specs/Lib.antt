@@ -1,4 +1,3 @@
-pub mod Given
 pub mod Owners
 pub mod Writes
 pub mod Parts

@@ -1,50 +1,14 @@
-// Document 01's claims about a call or two, each as a function that makes the calls and whose contract is the claim, for all inputs.
+// Demand 3, as document 01 words it: claims about a call or two, each as a function that makes the calls and whose contract is the claim, for all inputs.
 ghost use mathlib.Core.Path.{_≡_};
-ghost use Rattle.lent.specs.Lists.{lentType, lentView};
-ghost use Rattle.claims.specs.Given.{GivenAsSet};
 ghost use Rattle.claims.specs.Owners.{LookedUp};
 ghost use Rattle.claims.specs.Parts.{startsAt};
 ghost use Rattle.claims.specs.Writes.{Made, TwoWrites, ReadBack};
 use file::FileRecord;
 use file::Handle;
 use file::Moved;
-use file::Opened;
 use file::Owned;
-use file::ViewGiven;
 use view::BytePos;
 use view::Offset;
-
-pub struct SetAndGiven {
-    pub set: Opened,
-    pub given: ViewGiven,
-}
-
-// Sets a view, and gives it back through the handle that the set gave back: the lists begin with exactly the lists set.
-pub fn set_then_give_back(
-    handle: Handle,
-    representation: &[u8],
-    displacement: i64,
-    ew: &[u64],
-    ed: &[i64],
-    ex: i64,
-    fw: &[u64],
-    fd: &[i64],
-    fx: i64,
-    gew: &mut [u64],
-    ged: &mut [i64],
-    gfw: &mut [u64],
-    gfd: &mut [i64],
-) -> SetAndGiven
-    ensures { λ r. ⌜ GivenAsSet handle (now (representation .entry)) (lentView displacement (lentType (now (ew .entry)) (now (ed .entry)) ex) (lentType (now (fw .entry)) (now (fd .entry)) fx)) (now (gew .entry)) (now (gew .exit)) (now (ged .entry)) (now (ged .exit)) (now (gfw .entry)) (now (gfw .exit)) (now (gfd .entry)) (now (gfd .exit)) r ⌝ }
-{
-    let set = handle.set_view(representation, displacement, ew, ed, ex, fw, fd, fx);
-    let changed = set.handle;
-    let given = changed.give_back(gew, ged, gfw, gfd);
-    SetAndGiven {
-        set: set,
-        given: given,
-    }
-}
 
 // Looks up a byte: the pair that it belongs to, or none exactly when there is none.
 pub fn look_up(handle: Handle, byte: BytePos) -> Owned

@@ -580,7 +580,7 @@ impl Handle {
             return judged(refusal, 0);
         }
         let view = self.view;
-        let end = writer::write_end(view, o, count);
+        let end = ending::write_end(view, o, count);
         if len < end {
             return judged(Handle::REFUSED_LENGTH, 0);
         }

@@ -1,4 +1,4 @@
-// The writing mover: where a write ends, storing its data etype by etype, and filling the gap. What a write does is defined in mover/specs/Moves.antt.
+// The writing mover: storing a write's data etype by etype, and filling the gap. What a write does is defined in mover/specs/Moves.antt.
 // These functions are pub for our own crates: a handle's calls make checks 1, 12, 13 and 14 first, and meet what is required here.
 ghost use mathlib.Core.Path.{_≡_};
 ghost use Prim.Native.Nat.{_*_};
@@ -6,41 +6,13 @@ ghost use lib.ListN.{length};
 ghost use Rattle.laws.specs.Lists.{nth, store};
 ghost use Rattle.view.specs.Types.{paper, whole};
 ghost use Rattle.view.specs.Places.{dataSize};
-ghost use Rattle.mover.specs.Moves.{fileByte, writeEnd};
-ghost use Rattle.mover.specs.Parts.{Ranged};
+ghost use Rattle.mover.specs.Moves.{fileByte};
 ghost use Rattle.writer.specs.Parts.{Storable, Writable, WriteDone};
 use view::Offset;
 use view::View;
 
 // What the gap between the old size and the new one gets.
 const GAP_FILL: u8 = 0;
-
-// The end of the highest byte that `count` etypes at `o` map to; 0 for none.
-// It looks at the last offsets alone, one for each instance at most: any earlier one is the same instance of an earlier tile. Places need not rise with the offset.
-pub fn write_end(v: View, o: Offset, count: u64) -> u64
-    requires { ⌜ Ranged v (o .0) count ⌝ }
-    ensures { λ r. ⌜ r ≡ writeEnd (paper v) (whole (o .0)) count ⌝ }
-{
-    if count == 0 {
-        return 0;
-    }
-    let reach = rules::reach_of(v.etype.entries, &v.etype.widths, &v.etype.displacements);
-    let tail = laws::smaller(count, v.filetype.instances);
-    let skipped = count - tail;
-    let from = view::natural(o.0) + skipped;
-    let last = from + tail;
-    let mut spot = locate::spot_of(v, view::to_offset(from));
-    let mut end = 0;
-    let mut x = from;
-    while x < last {
-        let place = locate::begin_at(&v.filetype.origins, spot);
-        let one = place.0 + reach;
-        end = laws::larger(end, one);
-        spot = locate::next_spot(spot, v.filetype.instances, v.filetype.extent);
-        x += 1;
-    }
-    end
-}
 
 // Stores `count` etypes from the buffer at `o`, each of the data bytes at its place.
 // It divides once, for the first offset, and then steps from instance to instance and from tile to tile.

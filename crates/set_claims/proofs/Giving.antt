@@ -29,7 +29,7 @@ use Rattle.file.specs.Refusals.{setViewRefusal, giveBackRefusal}
 use Rattle.file.specs.Answers.{setViewAnswer, givenAs, giveBackAnswer, shapeGiven, widthsGiven, displacementsGiven, GaveBack}
 use Rattle.given.specs.Giving.{Ready}
 use Rattle.file.proofs.Returning.{give-ready}
-use Rattle.claims.specs.Given.{TypeSame, ViewSame, Roomy, GivenAsSet}
+use Rattle.set_claims.specs.Given.{TypeSame, ViewSame, Roomy, GivenAsSet}
 
 -- ---- a granted set
 

@@ -3,9 +3,9 @@ use Prim.Native.Nat.{_-_}
 use borrow.Author.Needs.{needs}
 use Rattle.mover.proofs.Etypes.{entries-kept}
 use Rattle.mover.proofs.Walking.{walk-fits, walk-kept, walk-held, walk-step}
-use Rattle.writer.proofs.Ending.{Ending, end-none, tail-few, from-fits, tail-fits, from-signed, from-allowed, ending-none, ending-fits, ending-more, ending-end}
-use Rattle.writer.proofs.write_end.Statement.{statement}
-use Rattle.writer.proofs.write_end.Tie as tie
+use Rattle.ending.proofs.Ending.{Ending, end-none, tail-few, from-fits, tail-fits, from-signed, from-allowed, ending-none, ending-fits, ending-more, ending-end}
+use Rattle.ending.proofs.write_end.Statement.{statement}
+use Rattle.ending.proofs.write_end.Tie as tie
 
 abbrev Inv-loop : tie.InvT-loop
 Inv-loop count v reach tail skipped from last spot₀ end₀ x₀ spot end x = Ending v from last reach x spot end

@@ -1,8 +1,8 @@
 -- `set_then_give_back` cites the law about the two answers. Assumes nothing.
-use Rattle.claims.proofs.Giving.{claim}
+use Rattle.set_claims.proofs.Giving.{claim}
 use borrow.Author.Needs.{needs}
-use Rattle.claims.proofs.set_then_give_back.Statement.{statement}
-use Rattle.claims.proofs.set_then_give_back.Tie as tie
+use Rattle.set_claims.proofs.set_then_give_back.Statement.{statement}
+use Rattle.set_claims.proofs.set_then_give_back.Tie as tie
 
 returns : tie.Need-returns
 returns c =

@@ -9,7 +9,7 @@ use Rattle.file.specs.declared.Handle.{Handle}
 use Rattle.file.specs.declared.TypeShape.{TypeShape}
 use Rattle.file.specs.declared.ViewGiven.{ViewGiven}
 use Rattle.file.specs.Answers.{setViewAnswer, GaveBack}
-use Rattle.claims.specs.declared.SetAndGiven.{SetAndGiven}
+use Rattle.set_claims.specs.declared.SetAndGiven.{SetAndGiven}
 
 -- a type was given back: its two lists begin with exactly the lists set, and its entry count and extent are theirs
 pub record TypeSame (t : PaperType) (ws : List ℕ) (ds : List ℤ) (s : TypeShape) : Type 0 where
