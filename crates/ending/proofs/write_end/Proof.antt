@@ -20,10 +20,10 @@ reach-of-requires : tie.Need-reach-of-requires Inv-loop μ-loop
 reach-of-requires c κs = search entries-kept
 
 sub-skipped : tie.Need-sub-skipped Inv-loop μ-loop
-sub-skipped c = search tail-few
+sub-skipped c = search (needs, tail-few)
 
 add-from : tie.Need-add-from Inv-loop μ-loop
-add-from c = search from-fits
+add-from c = search (needs, from-fits)
 
 add-last : tie.Need-add-last Inv-loop μ-loop
 add-last c = search tail-fits

@@ -21,7 +21,7 @@ data-size-requires : tie.Need-data-size-requires Inv-loop μ-loop
 data-size-requires c κs = search (widths-kept, entries-kept)
 
 add-last : tie.Need-add-last Inv-loop μ-loop
-add-last c = search last-fits
+add-last c = search (needs, last-fits)
 
 spot-of-requires : tie.Need-spot-of-requires Inv-loop μ-loop
 spot-of-requires c κs = search (needs, move-offset)
@@ -30,13 +30,13 @@ loop-holds : tie.Need-loop-holds Inv-loop μ-loop
 loop-holds c = search (needs, scattering-none)
 
 begin-at-requires : tie.Need-begin-at-requires Inv-loop μ-loop
-begin-at-requires c κs = search walk-kept
+begin-at-requires c κs = search (needs, walk-kept)
 
 mul-from : tie.Need-mul-from Inv-loop μ-loop
 mul-from c = search from-fits
 
 sub-copy-in : tie.Need-sub-copy-in Inv-loop μ-loop
-sub-copy-in c = search from-inside
+sub-copy-in c = search (needs, from-inside)
 
 part-copy-in-start : tie.Need-part-copy-in-start Inv-loop μ-loop
 part-copy-in-start c = search from-inside
@@ -45,10 +45,10 @@ copy-in-requires : tie.Need-copy-in-requires Inv-loop μ-loop
 copy-in-requires c κs = search scatter-lies
 
 next-spot-requires : tie.Need-next-spot-requires Inv-loop μ-loop
-next-spot-requires c κs = search (walk-held, walk-step)
+next-spot-requires c κs = search (needs, walk-held, walk-step)
 
 add-x : tie.Need-add-x Inv-loop μ-loop
-add-x c = search walk-fits
+add-x c = search (needs, walk-fits)
 
 loop-again : tie.Need-loop-again Inv-loop μ-loop
 loop-again c = search scatter-more
