@@ -1,5 +1,6 @@
 -- `lists_long` compares each list with its own entry count. Assumes nothing.
 use mathlib.Core.Path.{refl}
+use borrow.Author.Needs.{needs}
 use borrow.Author.Tests.{le-leb, lt-leb}
 use Rattle.laws.proofs.Booleans.{also-yes, also-no}
 use Rattle.ranges.specs.Parts.{listsLong}
@@ -8,7 +9,7 @@ use Rattle.ranges.proofs.lists_long.Statement.{statement}
 use Rattle.ranges.proofs.lists_long.Tie as tie
 
 mul-all : tie.Need-mul-all
-mul-all c = search counts-fit
+mul-all c = search (needs, counts-fit)
 
 returns : tie.Need-returns
 unfolding listsLong

@@ -8,7 +8,7 @@ returns : tie.Need-returns
 returns c = search next-refused
 
 add-self : tie.Need-add-self
-add-self c = search pointer-fits
+add-self c = search (needs, pointer-fits)
 
 returns-2 : tie.Need-returns-2
 returns-2 c = search next-done
