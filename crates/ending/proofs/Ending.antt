@@ -18,11 +18,12 @@ use Rattle.view.specs.Limits.{offsetAllowed}
 use Rattle.view.specs.Types.{PaperView, paper, whole, extentOf}
 use Rattle.view.specs.Rules.{instances, Kept}
 use Rattle.view.specs.Places.{place, byteOf, dataSize}
+use Rattle.view.specs.Numbers.{numbersOf}
 use Rattle.view.proofs.Paper.{paper-instances}
 use Rattle.view.proofs.Accepted.{facts, instances-some}
 use Rattle.rules.specs.Parts.{reachOf}
 use Rattle.locate.specs.declared.Spot.{Spot}
-use Rattle.locate.specs.Spots.{SpotAt, nextSpot}
+use Rattle.locate.specs.Spots.{spotAt, nextSpot}
 use Rattle.view.proofs.Held.{record-some}
 use Rattle.mover.specs.Moves.{fileByte, IsWriteEnd, writeEnd}
 use Rattle.mover.specs.Parts.{Ranged}
@@ -141,7 +142,7 @@ module _ (v : View) (o : ℤ) (c : ℕ) (h : Ranged v o c) (n : c ≡ 0 → ⊥)
       unfolding offsetAllowed
       from-allowed = rw q (lt-ltb (first + (c - t)) 4294967296 (omega (arith, bound, tail-some)))
 
-      pub ending-none : (s : Spot) → SpotAt (paper v) (whole z) s → (r : ℕ) → r ≡ reachOf (v .etype .widths) (v .etype .displacements) (v .etype .entries) → Ending v (first + (c - t)) (first + (c - t) + t) r (first + (c - t)) s 0
+      pub ending-none : (s : Spot) → s ≡ spotAt (numbersOf v) (whole z) → (r : ℕ) → r ≡ reachOf (v .etype .widths) (v .etype .displacements) (v .etype .entries) → Ending v (first + (c - t)) (first + (c - t) + t) r (first + (c - t)) s 0
       unfolding whole greatest
       ending-none s at r reaches =
           let d : first + (c - t) - (first + (c - t)) ≡ 0 = omega arith in

@@ -1,4 +1,5 @@
 pub mod Checking
+pub mod Lending
 pub mod Answering
 pub mod Seeking
 pub mod Accessing

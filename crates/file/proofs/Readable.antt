@@ -1,6 +1,5 @@
--- A read: what a granted one hands to the mover, and the answers at an offset and at the pointer.
+-- A read: its answers at an offset and at the pointer, from what the access on the handle's parts answers.
 use Prim.Native.Nat.{ℕ, _+_, _<_}
-use mathlib.Core.Bool.{Bool, false}
 use mathlib.Core.List.{List}
 use mathlib.Core.Path.{_≡_, refl, sym, ap, _∙_}
 use native.Mathlib.Omega.{arith}
@@ -10,53 +9,55 @@ use mir.Syntax.{w64}
 use mir.Val.{Fits}
 use Rattle.laws.specs.Checks.{granted}
 use Rattle.laws.proofs.Booleans.{check-no, granted-yes, granted-no}
+use Rattle.view.specs.declared.Numbers.{Numbers}
 use Rattle.view.specs.declared.Offset.{Offset}
 use Rattle.view.specs.Types.{paper, whole}
 use Rattle.view.specs.Rules.{allowsReading}
+use Rattle.view.specs.Numbers.{numbersOf}
+use Rattle.ranges.specs.Parts.{accessChecked}
 use Rattle.mover.specs.Moves.{moved, readInto}
-use Rattle.mover.specs.Parts.{Movable, ReadDone}
 use Rattle.mover.proofs.Reading.{moved-is}
+use Rattle.checks.specs.Parts.{handleHeld, fileHeld, accessHeld}
+use Rattle.checks.proofs.Accesses.{held-sum}
+use Rattle.access.specs.declared.ReadAnswer.{ReadAnswer}
+use Rattle.access.specs.Parts.{readHeld, ReadMade}
 use Rattle.file.specs.declared.Handle.{Handle}
 use Rattle.file.specs.declared.FileRecord.{FileRecord}
 use Rattle.file.specs.declared.Moved.{Moved}
-use Rattle.file.specs.Handles.{viewOf, startOf, withPointer}
-use Rattle.file.specs.Refusals.{readRefusal}
+use Rattle.file.specs.Handles.{viewOf, handleKept, fileKept, startOf, withPointer}
+use Rattle.file.specs.Refusals.{accessRefusal, readRefusal}
 use Rattle.file.specs.Answers.{readCount, readAtAnswer, readBuffer, readAnswer, ReadAt, ReadNext}
-use Rattle.file.specs.Parts.{refusedMove, checkedAccess}
-use Rattle.file.proofs.Accessing.{checked-sum, checked-movable, past-kept, start-same}
+use Rattle.file.specs.Parts.{refusedMove}
+use Rattle.file.proofs.Accessing.{past-kept, start-same}
+use Rattle.file.proofs.Lending.{lentOf, lent-same}
 
--- its checks are those of an access
-read-checked : (h : Handle) (len : ℕ) (r : FileRecord) (o : ℤ) (c room : ℕ) → readRefusal h len r o c room ≡ checkedAccess (allowsReading (h .mode)) h len r o c room
-unfolding readRefusal checkedAccess
+-- its checks are those on the handle's parts
+read-checked : (h : Handle) (len : ℕ) (r : FileRecord) (o : ℤ) (c room : ℕ) → readHeld (h .mode) (h .pointer) (h .view) len (r .size) o c room ≡ readRefusal h len r o c room
+unfolding readRefusal accessRefusal accessHeld accessChecked fileHeld handleHeld fileKept handleKept viewOf
 read-checked h len r o c room = refl
 
 -- ---- at an offset
 
-module _ (h : Handle) (file : List ℕ) (r : FileRecord) (o : ℤ) (c : ℕ) (before : List ℕ) (u : Bool) (a : u ≡ allowsReading (h .mode)) (n : ℕ) (checked : n ≡ checkedAccess u h (length file) r o c (length before)) where
-  e : n ≡ readRefusal h (length file) r o c (length before)
-  e = checked ∙ ap (λ (b : Bool). checkedAccess b h (length file) r o c (length before)) a ∙ sym (read-checked h (length file) r o c (length before))
+module _ (h : Handle) (file : List ℕ) (r : FileRecord) (o : ℤ) (c : ℕ) (before after : List ℕ) (f : Numbers) (s : f ≡ numbersOf (h .view)) (d : ReadAnswer) (made : ReadMade (h .mode) (h .pointer) (lentOf h f) file (r .size) o c before after d) where
+  read : ReadMade (h .mode) (h .pointer) (h .view) file (r .size) o c before after d
+  read = rw (lent-same h f s) at made
 
-  pub at-movable : n ≡ 0 → Movable (h .view) (length file) (r .size) o c (length before)
-  at-movable z = checked-movable u h (length file) r o c (length before) (sym checked ∙ z)
+  number : d .refusal ≡ readRefusal h (length file) r o c (length before)
+  number = read .refusal ∙ read-checked h (length file) r o c (length before)
 
-  pub at-refused : (n ≡ 0 → ⊥) → (m : Moved) → m ≡ refusedMove n h r → ReadAt h file r o c before before m
-  unfolding readAtAnswer readCount readBuffer
-  at-refused z m q =
-      let y : readRefusal h (length file) r o c (length before) ≡ 0 → ⊥ = λ p. z (e ∙ p) in
-      record {
-        answer = q ∙ (λ i. record { refusal = e i; count = sym (granted-no _ (moved (viewOf h) (r .size) (whole o) c) 0 y) i; handle = h; file = r });
-        buffer = sym (granted-no _ _ before y);
-      }
+  counted : d .count ≡ readCount h (length file) r o c (length before)
+  unfolding readCount viewOf
+  counted = read .count ∙ ap (λ (n : ℕ). granted n (moved (paper (h .view)) (r .size) (whole o) c) 0) number
 
-  pub at-done : n ≡ 0 → (m : ℕ) (after : List ℕ) → ReadDone (h .view) file (r .size) o c before m after → ReadAt h file r o c before after (record { refusal = 0; count = m; handle = h; file = r })
-  unfolding readAtAnswer readCount readBuffer viewOf
-  at-done z m after d =
-      let y = sym e ∙ z in
-      let g = d .count ∙ sym (granted-yes _ _ 0 y) in
-      record {
-        answer = λ i. record { refusal = sym y i; count = g i; handle = h; file = r };
-        buffer = d .buffer ∙ ap (λ (x : ℕ). readInto (paper (h .view)) file (whole o) x before) g ∙ sym (granted-yes _ _ before y);
-      }
+  pub at-answered : ReadAt h file r o c before after (record { refusal = d .refusal; count = d .count; handle = h; file = r })
+  unfolding readAtAnswer readBuffer viewOf
+  at-answered = record {
+    answer = λ i. record { refusal = number i; count = counted i; handle = h; file = r };
+    buffer = read .buffer ∙ (λ i. granted (number i) (readInto (paper (h .view)) file (whole o) (counted i) before) before);
+  }
+
+  pub at-none : (d .refusal ≡ 0 → ⊥) → d .count ≡ 0
+  at-none z = read .count ∙ granted-no (d .refusal) _ 0 z
 
 -- ---- at the pointer
 
@@ -81,35 +82,36 @@ module _ (h : Handle) (file : List ℕ) (r : FileRecord) (c : ℕ) (before : Lis
     buffer = d .buffer ∙ ap (λ (x : ℤ). readBuffer h file r x c before) e ∙ start-buffer;
   }
 
-  module _ (after : List ℕ) (done : Moved) (s : Offset) (e : s .0 ≡ startOf h) (d : ReadAt h file r (s .0) c before after done) where
-    at-pointer : ReadAt h file r (pos (h .pointer)) c before after done
-    at-pointer = start-read after done (s .0) e d
+  module _ (after : List ℕ) (f : Numbers) (s : f ≡ numbersOf (h .view)) (d : ReadAnswer) (b : Offset) (e : b .0 ≡ startOf h) (made : ReadMade (h .mode) (h .pointer) (lentOf h f) file (r .size) (b .0) c before after d) where
+    at-pointer : ReadAt h file r (pos (h .pointer)) c before after (record { refusal = d .refusal; count = d .count; handle = h; file = r })
+    at-pointer = start-read after _ (b .0) e (at-answered h file r (b .0) c before after f s d made)
 
-    refusal-is : done .refusal ≡ readRefusal h (length file) r (pos (h .pointer)) c (length before)
+    refusal-is : d .refusal ≡ readRefusal h (length file) r (pos (h .pointer)) c (length before)
     unfolding readAtAnswer
     refusal-is = ap (λ x. x .refusal) (at-pointer .answer)
 
-    count-is : done .count ≡ readCount h (length file) r (pos (h .pointer)) c (length before)
+    count-is : d .count ≡ readCount h (length file) r (pos (h .pointer)) c (length before)
     unfolding readAtAnswer
     count-is = ap (λ x. x .count) (at-pointer .answer)
 
-    pub next-refused : (done .refusal ≡ 0 → ⊥) → ReadNext h file r c before after done
+    pub next-refused : (d .refusal ≡ 0 → ⊥) → (m : Moved) → m ≡ refusedMove (d .refusal) h r → ReadNext h file r c before after m
     unfolding readAnswer readAtAnswer
-    next-refused z =
+    next-refused z m q =
         let n = readRefusal h (length file) r (pos (h .pointer)) c (length before) in
-        let m = readCount h (length file) r (pos (h .pointer)) c (length before) in
-        let g = granted-no n (withPointer h (h .pointer + m)) h (λ q. z (refusal-is ∙ q)) in
-        record { answer = at-pointer .answer ∙ (λ i. record { refusal = n; count = m; handle = sym g i; file = r }); buffer = at-pointer .buffer }
+        let x = readCount h (length file) r (pos (h .pointer)) c (length before) in
+        let g = granted-no n (withPointer h (h .pointer + x)) h (λ y. z (refusal-is ∙ y)) in
+        let none = sym (at-none h file r (b .0) c before after f s d made z) ∙ count-is in
+        record { answer = q ∙ (λ i. record { refusal = refusal-is i; count = none i; handle = sym g i; file = r }); buffer = at-pointer .buffer }
 
-    module _ (z : done .refusal ≡ 0) where
-      pub pointer-fits : Fits w64 (h .pointer + done .count)
+    module _ (z : d .refusal ≡ 0) where
+      pub pointer-fits : Fits w64 (h .pointer + d .count)
       unfolding readCount whole
       pointer-fits =
           let y = sym refusal-is ∙ z in
           let l = moved-is (viewOf h) (r .size) (h .pointer) c .most in
-          record { fits = omega (arith, checked-sum (allowsReading (h .mode)) h (length file) r (pos (h .pointer)) c (length before) (sym (read-checked h (length file) r (pos (h .pointer)) c (length before)) ∙ y), count-is, granted-yes _ (moved (viewOf h) (r .size) (h .pointer) c) 0 y) }
+          record { fits = omega (arith, held-sum (allowsReading (h .mode)) (h .mode) (h .pointer) (h .view) (length file) (r .size) (pos (h .pointer)) c (length before) (read-checked h (length file) r (pos (h .pointer)) c (length before) ∙ y), count-is, granted-yes _ (moved (viewOf h) (r .size) (h .pointer) c) 0 y) }
 
-      pub next-done : ReadNext h file r c before after (record { refusal = 0; count = done .count; handle = record { mode = h .mode; pointer = h .pointer + done .count; view = h .view }; file = r })
+      pub next-done : ReadNext h file r c before after (record { refusal = 0; count = d .count; handle = record { mode = h .mode; pointer = h .pointer + d .count; view = h .view }; file = r })
       unfolding readAnswer readAtAnswer withPointer
       next-done =
           let n = readRefusal h (length file) r (pos (h .pointer)) c (length before) in

@@ -14,11 +14,14 @@ use mir.Val.{Fits}
 use Rattle.laws.specs.Checks.{also, granted}
 use Rattle.laws.proofs.Booleans.{also-inv, check-yes, check-no, check-inv, granted-no, unflag-true, unflag-false}
 use Rattle.view.specs.declared.View.{View}
+use Rattle.view.specs.declared.Numbers.{Numbers}
 use Rattle.view.specs.Types.{paper, entries, extentOf, whole}
 use Rattle.view.specs.Rules.{Kept}
+use Rattle.view.specs.Numbers.{numbersOf}
 use Rattle.view.proofs.Paper.{paper-entries, paper-file-entries, paper-extent, paper-file-extent, paper-start}
 use Rattle.view.proofs.Held.{record-few}
 use Rattle.ranges.specs.Parts.{listsLong}
+use Rattle.checks.specs.Parts.{handleHeld, giveBackHeld}
 use Rattle.given.specs.Giving.{Ready, GivenBack}
 use Rattle.mover.proofs.Etypes.{entries-kept}
 use Rattle.file.specs.declared.Handle.{Handle}
@@ -27,7 +30,8 @@ use Rattle.file.specs.declared.ViewGiven.{ViewGiven}
 use Rattle.file.specs.Handles.{viewOf, handleKept}
 use Rattle.file.specs.Refusals.{giveBackRefusal}
 use Rattle.file.specs.Answers.{givenAs, giveBackAnswer, shapeGiven, widthsGiven, displacementsGiven, GaveBack}
-use Rattle.file.proofs.Checking.{handle-view, judged-view}
+use Rattle.file.proofs.Checking.{handle-view}
+use Rattle.file.proofs.Lending.{lentOf, lent-same}
 
 -- ---- the refusals
 
@@ -36,31 +40,11 @@ entries-fit v k =
     let m = mul-le-mul {n₁ = v .filetype .instances} {m₁ = v .etype .entries} {n₂ = 64} {m₂ = 8} (record-few v k) (entries-kept v k .few) in
     record { fits = omega arith }
 
-module _ (h : Handle) (t : Bool) (k : t ≡ handleKept h) (n : not t ≡ false) where
-  pub give-entries : h .view .etype .entries ≤ 8
-  give-entries = entries-kept (h .view) (judged-view h t k n) .few
-
-  pub give-instances : h .view .filetype .instances ≤ 64
-  give-instances = record-few (h .view) (judged-view h t k n)
-
-module _ (h : Handle) (ew ed fw fd : ℕ) (t : Bool) (k : t ≡ handleKept h) where
-  pub give-handle : not t ≡ true → 1 ≡ giveBackRefusal h ew ed fw fd
-  unfolding giveBackRefusal
-  give-handle n = check-no _ 1 _ 1 (unflag-false t _ k n) refl
-
-  module _ (n : not t ≡ false) where
-    module _ (u : Bool) (e : u ≡ listsLong (h .view .etype .entries) (h .view .filetype .instances) ew ed fw fd) where
-      long-is : u ≡ also (leb (entries (viewOf h .etype)) ew) (also (leb (entries (viewOf h .etype)) ed) (also (leb (entries (viewOf h .filetype)) fw) (leb (entries (viewOf h .filetype)) fd)))
-      unfolding listsLong viewOf
-      long-is = rw (paper-entries (h .view), paper-file-entries (h .view)) e
-
-      pub give-short : not u ≡ true → 13 ≡ giveBackRefusal h ew ed fw fd
-      unfolding giveBackRefusal
-      give-short m = check-yes _ 1 _ 13 (unflag-true t _ k n) (check-no _ 13 _ 13 (unflag-false u _ long-is m) refl)
-
-      pub give-granted : not u ≡ false → 0 ≡ giveBackRefusal h ew ed fw fd
-      unfolding giveBackRefusal
-      give-granted m = check-yes _ 1 _ 0 (unflag-true t _ k n) (check-yes _ 13 _ 0 (unflag-true u _ long-is m) refl)
+-- the checks on the numbers that are lent are those of the call: the record's entry counts are those of the view on paper
+module _ (h : Handle) (f : Numbers) (s : f ≡ numbersOf (h .view)) (ew ed fw fd : ℕ) where
+  pub give-checked : giveBackHeld (h .mode) (h .pointer) (lentOf h f) ew ed fw fd ≡ giveBackRefusal h ew ed fw fd
+  unfolding giveBackHeld giveBackRefusal handleHeld handleKept listsLong viewOf
+  give-checked = rw (paper-entries (h .view), paper-file-entries (h .view)) (ap (λ (v : View). giveBackHeld (h .mode) (h .pointer) v ew ed fw fd) (lent-same h f s))
 
 -- ---- the answer
 
@@ -137,3 +121,21 @@ module _ (h : Handle) (ew : List ℕ) (ed : List ℤ) (fw : List ℕ) (fd : List
           filetype-widths = rw y (g .filetype-widths);
           filetype-displacements = rw y (g .filetype-displacements);
         }
+
+-- the same, by the check on what is lent
+module _ (h : Handle) (ew : List ℕ) (ed : List ℤ) (fw : List ℕ) (fd : List ℤ) (f : Numbers) (s : f ≡ numbersOf (h .view)) (n : ℕ) (q : n ≡ giveBackHeld (h .mode) (h .pointer) (lentOf h f) (length ew) (length ed) (length fw) (length fd)) where
+  e : n ≡ giveBackRefusal h (length ew) (length ed) (length fw) (length fd)
+  e = q ∙ give-checked h f s (length ew) (length ed) (length fw) (length fd)
+
+  pub lent-kept : n ≡ 0 → Kept (paper (h .view))
+  lent-kept z = give-kept h ew ed fw fd n e z
+
+  pub lent-ready : n ≡ 0 → Ready (paper (lentOf h f)) ew ed fw fd
+  lent-ready z = rw (lent-same h f s) (give-ready h ew ed fw fd n e z)
+
+  module _ (r : ViewGiven) (y : r ≡ givenAs n h) where
+    pub lent-none : (n ≡ 0 → ⊥) → GaveBack h ew ew ed ed fw fw fd fd r
+    lent-none z = gave-none h ew ed fw fd n e r y z
+
+    pub lent-gave : n ≡ 0 → (ew' : List ℕ) (ed' : List ℤ) (fw' : List ℕ) (fd' : List ℤ) → GivenBack (paper (lentOf h f)) ew ew' ed ed' fw fw' fd fd' → GaveBack h ew ew' ed ed' fw fw' fd fd' r
+    lent-gave z ew' ed' fw' fd' g = gave h ew ed fw fd n e r y z ew' ed' fw' fd' (rw (lent-same h f s) at g)

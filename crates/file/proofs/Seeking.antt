@@ -1,6 +1,7 @@
 -- Seek: what its offset is added to, and the answer by where the target lies.
 use Prim.Native.Nat.{ℕ, _≤_, _<_}
 use mathlib.Core.Bool.{Bool, true, false, not, cond}
+use mathlib.Core.List.{List}
 use mathlib.Core.Path.{_≡_, refl, sym, ap, _∙_}
 use native.Mathlib.Omega.{arith}
 use borrow.Author.Tests.{eq-eqb, ne-eqb}
@@ -12,38 +13,45 @@ use mir.Facts.{toZ-ofZ}
 use Rattle.laws.specs.Checks.{check, granted}
 use Rattle.laws.proofs.Booleans.{check-yes, check-inv, granted-yes, granted-no, cond-yes, cond-no, unflag-true, unflag-false}
 use Rattle.view.specs.declared.Offset.{Offset}
+use Rattle.view.specs.declared.Numbers.{Numbers}
 use Rattle.view.specs.Types.{paper, whole}
 use Rattle.view.specs.Rules.{Kept}
 use Rattle.view.specs.End.{endOfFile}
+use Rattle.view.specs.Numbers.{numbersOf}
 use Rattle.ranges.specs.declared.Target.{Target}
 use Rattle.ranges.specs.Ranges.{targetAllowed, targetAt}
 use Rattle.ranges.specs.Parts.{seekChecked}
 use Rattle.ranges.proofs.Ranging.{zero-plus}
+use Rattle.locate.specs.Spots.{Tiled, endOn}
 use Rattle.locate.proofs.Placing.{end-bound}
+use Rattle.locate.proofs.Laid.{end-is}
+use Rattle.checks.specs.Parts.{fileHeld}
 use Rattle.file.specs.declared.Handle.{Handle}
 use Rattle.file.specs.declared.FileRecord.{FileRecord}
 use Rattle.file.specs.declared.Moved.{Moved}
 use Rattle.file.specs.Handles.{viewOf, fileKept, withPointer}
 use Rattle.file.specs.Refusals.{seekTarget, seekRefusal}
 use Rattle.file.specs.Answers.{seekAnswer}
-use Rattle.file.specs.Parts.{refusedMove, seekBase}
+use Rattle.file.specs.Parts.{refusedMove, baseOn}
+use Rattle.file.proofs.Checking.{file-kept-view}
+use Rattle.file.proofs.Lending.{lentOf, file-judged}
 
 -- ---- the base
 
-module _ (h : Handle) (r : FileRecord) (whence : ℕ) where
-  pub base-set : whence ≡ 0 → 0 ≡ seekBase h r whence
-  unfolding seekBase
+module _ (p : ℕ) (v : Numbers) (ps : List ℕ) (size whence : ℕ) where
+  pub base-set : whence ≡ 0 → 0 ≡ baseOn p v ps size whence
+  unfolding baseOn
   base-set e = cond-yes _ _ _ 0 (eq-eqb whence 0 e) refl
 
   module _ (n : whence ≡ 0 → ⊥) where
-    pub base-current : whence ≡ 1 → h .pointer ≡ seekBase h r whence
-    unfolding seekBase
+    pub base-current : whence ≡ 1 → p ≡ baseOn p v ps size whence
+    unfolding baseOn
     base-current e = cond-no _ _ _ _ (ne-eqb whence 0 n) (cond-yes _ _ _ _ (eq-eqb whence 1 e) refl)
 
-    pub base-end : (whence ≡ 1 → ⊥) → Kept (paper (h .view)) → r .size ≤ 1099511627776 → (end : Offset) → end .0 ≡ pos (endOfFile (paper (h .view)) (r .size)) → (b : ℕ) → b ≡ whole (toZ w64 (ofZ w64 (end .0))) → b ≡ seekBase h r whence
-    unfolding seekBase viewOf whole
+    pub base-end : (whence ≡ 1 → ⊥) → Tiled v → size ≤ 1099511627776 → (end : Offset) → end .0 ≡ pos (endOn v ps size) → (b : ℕ) → b ≡ whole (toZ w64 (ofZ w64 (end .0))) → b ≡ baseOn p v ps size whence
+    unfolding baseOn whole
     base-end m k l end e b q =
-        let z : toZ w64 (ofZ w64 (pos (endOfFile (paper (h .view)) (r .size)))) ≡ pos (endOfFile (paper (h .view)) (r .size)) = toZ-ofZ {w = w64} (record { sfits = end-bound (h .view) k (r .size) l }) in
+        let z : toZ w64 (ofZ w64 (pos (endOn v ps size))) ≡ pos (endOn v ps size) = toZ-ofZ {w = w64} (record { sfits = end-bound v k ps size l }) in
         cond-no _ _ _ _ (ne-eqb whence 0 n) (cond-no _ _ _ _ (ne-eqb whence 1 m) (q ∙ ap whole (ap (λ x. toZ w64 (ofZ w64 x)) e ∙ z)))
 
 -- ---- the answer
@@ -53,18 +61,24 @@ picked true c p e z = sym (zero-plus z)
 picked false true p e z = refl
 picked false false p e z = refl
 
-target-is : (h : Handle) (r : FileRecord) (z : ℤ) (whence : ℕ) → seekTarget h r z whence ≡ pos (seekBase h r whence) +ℤ z
-unfolding seekTarget seekBase
-target-is h r z whence = picked (eqb whence 0) (eqb whence 1) (h .pointer) (endOfFile (viewOf h) (r .size)) z
+target-is : (h : Handle) (r : FileRecord) (z : ℤ) (whence : ℕ) → Kept (paper (h .view)) → seekTarget h r z whence ≡ pos (baseOn (h .pointer) (numbersOf (h .view)) (h .view .filetype .origins) (r .size) whence) +ℤ z
+unfolding seekTarget baseOn viewOf
+target-is h r z whence k = rw (end-is (h .view) k (r .size)) (picked (eqb whence 0) (eqb whence 1) (h .pointer) (endOfFile (paper (h .view)) (r .size)) z)
 
-module _ (h : Handle) (len : ℕ) (r : FileRecord) (z : ℤ) (whence : ℕ) (t : Bool) (k : t ≡ fileKept h len r) where
+module _ (h : Handle) (len : ℕ) (r : FileRecord) (z : ℤ) (whence : ℕ) (f : Numbers) (s : f ≡ numbersOf (h .view)) (t : Bool) (q : t ≡ fileHeld (h .mode) (h .pointer) (lentOf h f) len (r .size)) where
+  k : t ≡ fileKept h len r
+  k = file-judged h f s len r t q
+
   pub seek-handle : not t ≡ true → (m : Moved) → m ≡ refusedMove 1 h r → m ≡ seekAnswer h len r z whence
   unfolding seekAnswer seekRefusal check granted
   seek-handle n m e = rw (unflag-false t _ k n) e
 
-  module _ (n : not t ≡ false) (s : SFits w64 z) (base : ℕ) (b : base ≡ seekBase h r whence) (g : Target) (a : g ≡ targetAt (pos base +ℤ toZ w64 (ofZ w64 z))) (m : ℕ) (c : m ≡ seekChecked whence (g .allowed)) where
+  module _ (n : not t ≡ false) (w : SFits w64 z) (base : ℕ) (b : base ≡ baseOn (h .pointer) f (h .view .filetype .origins) (r .size) whence) (g : Target) (a : g ≡ targetAt (pos base +ℤ toZ w64 (ofZ w64 z))) (m : ℕ) (c : m ≡ seekChecked whence (g .allowed)) where
     aims : pos base +ℤ toZ w64 (ofZ w64 z) ≡ seekTarget h r z whence
-    aims = ap (λ (x : ℤ). pos base +ℤ x) (toZ-ofZ s) ∙ ap (λ (x : ℕ). pos x +ℤ z) b ∙ sym (target-is h r z whence)
+    aims =
+        ap (λ (x : ℤ). pos base +ℤ x) (toZ-ofZ w)
+        ∙ ap (λ (x : ℕ). pos x +ℤ z) (b ∙ ap (λ (x : Numbers). baseOn (h .pointer) x (h .view .filetype .origins) (r .size) whence) s)
+        ∙ sym (target-is h r z whence (file-kept-view h len r (unflag-true t _ k n)))
 
     goes : g ≡ targetAt (seekTarget h r z whence)
     goes = a ∙ ap targetAt aims
@@ -80,14 +94,14 @@ module _ (h : Handle) (len : ℕ) (r : FileRecord) (z : ℤ) (whence : ℕ) (t :
     pub seek-refused : (m ≡ 0 → ⊥) → (d : Moved) → d ≡ refusedMove m h r → d ≡ seekAnswer h len r z whence
     unfolding seekAnswer
     seek-refused y d e =
-        let f = granted-no _ (withPointer h (whole (seekTarget h r z whence))) h (λ q. y (refusal-is ∙ q)) in
-        e ∙ (λ i. record { refusal = refusal-is i; count = 0; handle = sym f i; file = r })
+        let v = granted-no _ (withPointer h (whole (seekTarget h r z whence))) h (λ x. y (refusal-is ∙ x)) in
+        e ∙ (λ i. record { refusal = refusal-is i; count = 0; handle = sym v i; file = r })
 
     pub seek-done : m ≡ 0 → record { refusal = 0; count = 0; handle = record { mode = h .mode; pointer = g .pointer; view = h .view }; file = r } ≡ seekAnswer h len r z whence
     unfolding seekAnswer seekChecked withPointer targetAt
     seek-done y =
-        let q : seekRefusal h len r z whence ≡ 0 = sym refusal-is ∙ y in
-        let f = granted-yes _ (withPointer h (whole (seekTarget h r z whence))) h q in
-        let w = sym allowed-is ∙ check-inv _ 12 _ (omega arith) (check-inv _ 15 _ (omega arith) (sym c ∙ y) .1) .0 in
-        let p : g .pointer ≡ whole (seekTarget h r z whence) = rw w at (ap (λ x. x .pointer) goes) in
-        λ i. record { refusal = sym q i; count = 0; handle = (ap (withPointer h) p ∙ sym f) i; file = r }
+        let x : seekRefusal h len r z whence ≡ 0 = sym refusal-is ∙ y in
+        let v = granted-yes _ (withPointer h (whole (seekTarget h r z whence))) h x in
+        let l = sym allowed-is ∙ check-inv _ 12 _ (omega arith) (check-inv _ 15 _ (omega arith) (sym c ∙ y) .1) .0 in
+        let p : g .pointer ≡ whole (seekTarget h r z whence) = rw l at (ap (λ x. x .pointer) goes) in
+        λ i. record { refusal = sym x i; count = 0; handle = (ap (withPointer h) p ∙ sym v) i; file = r }

@@ -1,35 +1,38 @@
--- A write: check 14 after the checks of an access, what a granted one hands to the mover, and the answers at an offset and at the pointer.
+-- A write: what a granted one has passed, and its answers at an offset and at the pointer, from what the access on the handle's parts answers.
 use Prim.Native.Nat.{ℕ, _+_, _*_, _≤_, _<_}
-use mathlib.Core.Bool.{Bool, true}
+use mathlib.Core.Bool.{Bool, true, false, cond}
 use mathlib.Core.List.{List}
 use mathlib.Core.Path.{_≡_, refl, sym, ap, _∙_}
 use native.Mathlib.Omega.{arith}
-use borrow.Author.Tests.{leb-true, le-leb, lt-leb}
-use lib.Dec.{leb}
+use borrow.Author.Tests.{leb-true}
+use lib.Dec.{leb, eqb}
 use lib.IntN.{ℤ, pos}
 use lib.ListN.{length}
 use mir.Syntax.{w64}
 use mir.Val.{Fits}
-use Rattle.laws.specs.Checks.{check, granted}
-use Rattle.laws.proofs.Booleans.{check-yes, check-no, check-inv, granted-yes, granted-no}
+use Rattle.laws.specs.Checks.{granted}
+use Rattle.laws.proofs.Booleans.{check-no, check-inv, granted-yes, granted-no}
+use Rattle.view.specs.declared.Numbers.{Numbers}
 use Rattle.view.specs.declared.Offset.{Offset}
 use Rattle.view.specs.Types.{paper, whole}
 use Rattle.view.specs.Rules.{allowsWriting}
 use Rattle.view.specs.Places.{dataSize}
+use Rattle.view.specs.Numbers.{numbersOf}
 use Rattle.ranges.specs.Ranges.{accessAllowed}
 use Rattle.ranges.proofs.Ranging.{access-sum}
-use Rattle.mover.specs.Moves.{writeEnd, newSize}
-use Rattle.mover.specs.Parts.{Ranged}
-use Rattle.writer.specs.Parts.{Writable, WriteDone}
+use Rattle.mover.specs.Moves.{writeEnd, newSize, written}
+use Rattle.checks.specs.Parts.{handleHeld, fileHeld}
+use Rattle.access.specs.declared.WriteAnswer.{WriteAnswer}
+use Rattle.access.specs.Parts.{writeHeld, WriteMade}
 use Rattle.file.specs.declared.Handle.{Handle}
 use Rattle.file.specs.declared.FileRecord.{FileRecord}
-use Rattle.file.specs.declared.Judgement.{Judgement}
 use Rattle.file.specs.declared.Moved.{Moved}
-use Rattle.file.specs.Handles.{viewOf, fileKept, startOf, withPointer, withSize}
+use Rattle.file.specs.Handles.{viewOf, handleKept, fileKept, startOf, withPointer, withSize}
 use Rattle.file.specs.Refusals.{accessRefusal, writeRefusal}
 use Rattle.file.specs.Answers.{writeAtAnswer, writtenFile, writeAnswer, WriteAt, WriteNext}
-use Rattle.file.specs.Parts.{refusedMove, checkedAccess, WriteJudged}
-use Rattle.file.proofs.Accessing.{access-movable, checked-no, checked-yes, checked-movable, past-kept, start-same}
+use Rattle.file.specs.Parts.{refusedMove}
+use Rattle.file.proofs.Accessing.{past-kept, start-same}
+use Rattle.file.proofs.Lending.{lentOf, lent-same}
 
 -- ---- the checks
 
@@ -51,83 +54,42 @@ checked h len r o c room z =
     let c14 = check-inv _ 14 _ (omega arith) (c13 .1) in
     record { kept = c1 .0; writes = c11 .0; range = c12 .0; long = leb-true _ _ (c13 .0); ends = leb-true _ _ (c14 .0) }
 
-module _ (h : Handle) (len : ℕ) (r : FileRecord) (o : ℤ) (c room : ℕ) where
-  -- checks 1, 11, 12 and 13, and check 14
-  checks : ℕ
-  checks = checkedAccess (allowsWriting (h .mode)) h len r o c room
-
-  last : ℕ
-  last = check (leb (writeEnd (viewOf h) (whole o) c) len) 14 0
-
-  refused-before : (checks ≡ 0 → ⊥) → checks ≡ writeRefusal h len r o c room
-  unfolding writeRefusal checks last
-  refused-before z = checked-no (allowsWriting (h .mode)) h len r o c room last z
-
-  asked-last : checks ≡ 0 → writeRefusal h len r o c room ≡ last
-  unfolding writeRefusal checks last
-  asked-last z = checked-yes (allowsWriting (h .mode)) h len r o c room z last
-
-  module _ (u : Bool) (a : u ≡ allowsWriting (h .mode)) (n : ℕ) (is : n ≡ checkedAccess u h len r o c room) where
-    found : n ≡ checks
-    unfolding checks
-    found = is ∙ ap (λ (b : Bool). checkedAccess b h len r o c room) a
-
-    -- an access that is refused before check 14
-    pub judged-access : (n ≡ 0 → ⊥) → (j : Judgement) → (j .refusal ≡ n) × (j .end ≡ 0) → WriteJudged h len r o c room j
-    judged-access z j e = record { refusal = e .0 ∙ found ∙ refused-before (λ q. z (found ∙ q)); end = λ q. absurd (z (sym (e .0) ∙ q)) }
-
-    module _ (z : n ≡ 0) where
-      pub judged-ranged : Ranged (h .view) o c
-      judged-ranged = checked-movable u h len r o c room (sym is ∙ z) .ranged
-
-      module _ (end : ℕ) (q : end ≡ writeEnd (paper (h .view)) (whole o) c) where
-        pub judged-past : len < end → (j : Judgement) → (j .refusal ≡ 14) × (j .end ≡ 0) → WriteJudged h len r o c room j
-        unfolding viewOf last
-        judged-past l j e = record {
-          refusal = e .0 ∙ check-no _ 14 0 14 (lt-leb (writeEnd (paper (h .view)) (whole o) c) len (rw q at l)) refl ∙ sym (asked-last (sym found ∙ z));
-          end = λ y. absurd (omega (arith, e .0));
-        }
-
-        pub judged-granted : end ≤ len → (j : Judgement) → (j .refusal ≡ 0) × (j .end ≡ end) → WriteJudged h len r o c room j
-        unfolding viewOf last
-        judged-granted l j e = record {
-          refusal = e .0 ∙ check-yes _ 14 0 0 (le-leb (writeEnd (paper (h .view)) (whole o) c) len (rw q at l)) refl ∙ sym (asked-last (sym found ∙ z));
-          end = λ y. e .1 ∙ q;
-        }
+-- its checks are those on the handle's parts
+write-checked : (h : Handle) (len : ℕ) (r : FileRecord) (o : ℤ) (c room : ℕ) → writeHeld (h .mode) (h .pointer) (h .view) len (r .size) o c room ≡ writeRefusal h len r o c room
+unfolding writeHeld writeRefusal accessRefusal fileHeld handleHeld fileKept handleKept viewOf
+write-checked h len r o c room = refl
 
 -- ---- at an offset
 
-module _ (h : Handle) (file : List ℕ) (r : FileRecord) (o : ℤ) (c : ℕ) (buf : List ℕ) (j : Judgement) (e : WriteJudged h (length file) r o c (length buf) j) where
-  pub at-refused : (j .refusal ≡ 0 → ⊥) → (m : Moved) → m ≡ refusedMove (j .refusal) h r → WriteAt h file file r o c buf m
-  unfolding writeAtAnswer writtenFile
-  at-refused z m q =
-      let y : writeRefusal h (length file) r o c (length buf) ≡ 0 → ⊥ = λ p. z (e .refusal ∙ p) in
-      record {
-        answer = q ∙ (λ i. record { refusal = e .refusal i; count = sym (granted-no _ c 0 y) i; handle = h; file = sym (granted-no _ (withSize r (newSize (viewOf h) (r .size) (whole o) c)) r y) i });
-        bytes = sym (granted-no _ _ file y);
-      }
+module _ (h : Handle) (file after : List ℕ) (r : FileRecord) (o : ℤ) (c : ℕ) (buf : List ℕ) (f : Numbers) (s : f ≡ numbersOf (h .view)) (d : WriteAnswer) (made : WriteMade (h .mode) (h .pointer) (lentOf h f) file after (r .size) o c buf d) where
+  write : WriteMade (h .mode) (h .pointer) (h .view) file after (r .size) o c buf d
+  write = rw (lent-same h f s) at made
 
-  module _ (z : j .refusal ≡ 0) where
-    y : writeRefusal h (length file) r o c (length buf) ≡ 0
-    y = sym (e .refusal) ∙ z
+  number : d .refusal ≡ writeRefusal h (length file) r o c (length buf)
+  number = write .refusal ∙ write-checked h (length file) r o c (length buf)
 
-    pub at-writable : Writable (h .view) (length file) (r .size) o c (j .end) (length buf)
-    unfolding viewOf
-    at-writable =
-        let p = checked h (length file) r o c (length buf) y in
-        let m = access-movable h (length file) r o c (length buf) (p .kept) (p .range) (p .long) in
-        record {
-          storable = record { ranged = m .ranged; room = m .room; ends = p .ends };
-          short = m .short;
-          ending = e .end z;
-        }
+  sized : (n : ℕ) → record { size = granted n (newSize (paper (h .view)) (r .size) (whole o) c) (r .size) } ≡ granted n (withSize r (newSize (paper (h .view)) (r .size) (whole o) c)) r
+  unfolding granted withSize
+  sized n = go (eqb n 0)
+    where
+      go : (b : Bool) → record { size = cond b (newSize (paper (h .view)) (r .size) (whole o) c) (r .size) } ≡ cond b (withSize r (newSize (paper (h .view)) (r .size) (whole o) c)) r
+      go true = refl
+      go false = refl
 
-    pub at-done : (grown : ℕ) (after : List ℕ) → WriteDone (h .view) file after (r .size) o c buf grown → WriteAt h file after r o c buf (record { refusal = 0; count = c; handle = h; file = record { size = grown } })
-    unfolding writeAtAnswer writtenFile viewOf withSize
-    at-done grown after d = record {
-      answer = λ i. record { refusal = sym y i; count = sym (granted-yes _ c 0 y) i; handle = h; file = (ap (λ (n : ℕ). withSize r n) (d .size) ∙ sym (granted-yes _ (withSize r (newSize (paper (h .view)) (r .size) (whole o) c)) r y)) i };
-      bytes = d .bytes ∙ sym (granted-yes _ _ file y);
-    }
+  pub at-answered : WriteAt h file after r o c buf (record { refusal = d .refusal; count = d .count; handle = h; file = record { size = d .size } })
+  unfolding writeAtAnswer writtenFile viewOf
+  at-answered = record {
+    answer = λ i. record {
+      refusal = number i;
+      count = (write .count ∙ ap (λ (n : ℕ). granted n c 0) number) i;
+      handle = h;
+      file = (ap (λ (z : ℕ). record { size = z }) (write .size) ∙ sized (d .refusal) ∙ ap (λ (n : ℕ). granted n (withSize r (newSize (paper (h .view)) (r .size) (whole o) c)) r) number) i;
+    };
+    bytes = write .bytes ∙ ap (λ (n : ℕ). granted n (written (paper (h .view)) (r .size) (whole o) c buf file) file) number;
+  }
+
+  pub at-none : (d .refusal ≡ 0 → ⊥) → (d .count ≡ 0) × (d .size ≡ r .size)
+  at-none z = (write .count ∙ granted-no (d .refusal) c 0 z, write .size ∙ granted-no (d .refusal) _ (r .size) z)
 
 -- ---- at the pointer
 
@@ -145,36 +107,43 @@ module _ (h : Handle) (file : List ℕ) (r : FileRecord) (c : ℕ) (buf : List �
   unfolding writtenFile granted
   start-bytes = start-same h (λ (z : ℤ). writtenFile h file r z c buf) (λ l a b. rw (past-refused l a, past-refused l b))
 
-  module _ (after : List ℕ) (done : Moved) (s : Offset) (e : s .0 ≡ startOf h) (d : WriteAt h file after r (s .0) c buf done) where
-    answer-is : done ≡ writeAtAnswer h (length file) r (pos (h .pointer)) c (length buf)
-    answer-is = d .answer ∙ ap (λ (z : ℤ). writeAtAnswer h (length file) r z c (length buf)) e ∙ start-answer
+  module _ (after : List ℕ) (f : Numbers) (s : f ≡ numbersOf (h .view)) (d : WriteAnswer) (b : Offset) (e : b .0 ≡ startOf h) (made : WriteMade (h .mode) (h .pointer) (lentOf h f) file after (r .size) (b .0) c buf d) where
+    at : WriteAt h file after r (b .0) c buf (record { refusal = d .refusal; count = d .count; handle = h; file = record { size = d .size } })
+    at = at-answered h file after r (b .0) c buf f s d made
+
+    answer-is : record { refusal = d .refusal; count = d .count; handle = h; file = record { size = d .size } } ≡ writeAtAnswer h (length file) r (pos (h .pointer)) c (length buf)
+    answer-is = at .answer ∙ ap (λ (z : ℤ). writeAtAnswer h (length file) r z c (length buf)) e ∙ start-answer
 
     bytes-are : after ≡ writtenFile h file r (pos (h .pointer)) c buf
-    bytes-are = d .bytes ∙ ap (λ (z : ℤ). writtenFile h file r z c buf) e ∙ start-bytes
+    bytes-are = at .bytes ∙ ap (λ (z : ℤ). writtenFile h file r z c buf) e ∙ start-bytes
 
-    refusal-is : done .refusal ≡ writeRefusal h (length file) r (pos (h .pointer)) c (length buf)
+    refusal-is : d .refusal ≡ writeRefusal h (length file) r (pos (h .pointer)) c (length buf)
     unfolding writeAtAnswer
     refusal-is = ap (λ x. x .refusal) answer-is
 
-    pub next-refused : (done .refusal ≡ 0 → ⊥) → WriteNext h file after r c buf done
+    pub next-refused : (d .refusal ≡ 0 → ⊥) → (m : Moved) → m ≡ refusedMove (d .refusal) h r → WriteNext h file after r c buf m
     unfolding writeAnswer writeAtAnswer
-    next-refused z =
+    next-refused z m q =
         let a = writeAtAnswer h (length file) r (pos (h .pointer)) c (length buf) in
-        let g = granted-no (a .refusal) (withPointer h (h .pointer + a .count)) h (λ q. z (refusal-is ∙ q)) in
-        record { answer = answer-is ∙ (λ i. record { refusal = a .refusal; count = a .count; handle = sym g i; file = a .file }); bytes = bytes-are }
+        let g = granted-no (a .refusal) (withPointer h (h .pointer + a .count)) h (λ y. z (refusal-is ∙ y)) in
+        let none = at-none h file after r (b .0) c buf f s d made z in
+        record {
+          answer = q ∙ (λ i. record { refusal = d .refusal; count = sym (none .0) i; handle = h; file = record { size = sym (none .1) i } }) ∙ answer-is ∙ (λ i. record { refusal = a .refusal; count = a .count; handle = sym g i; file = a .file });
+          bytes = bytes-are;
+        }
 
-    module _ (z : done .refusal ≡ 0) where
+    module _ (z : d .refusal ≡ 0) where
       granted-is : writeRefusal h (length file) r (pos (h .pointer)) c (length buf) ≡ 0
       granted-is = sym refusal-is ∙ z
+
+      count-is : c ≡ granted (writeRefusal h (length file) r (pos (h .pointer)) c (length buf)) c 0
+      count-is = sym (granted-yes _ c 0 granted-is)
 
       pub pointer-fits : Fits w64 (h .pointer + c)
       unfolding whole
       pointer-fits = record { fits = omega (arith, access-sum (pos (h .pointer)) c (checked h (length file) r (pos (h .pointer)) c (length buf) granted-is .range)) }
 
-      count-is : c ≡ granted (writeRefusal h (length file) r (pos (h .pointer)) c (length buf)) c 0
-      count-is = sym (granted-yes _ c 0 granted-is)
-
-      pub next-done : WriteNext h file after r c buf (record { refusal = 0; count = c; handle = record { mode = h .mode; pointer = h .pointer + c; view = h .view }; file = done .file })
+      pub next-done : WriteNext h file after r c buf (record { refusal = 0; count = c; handle = record { mode = h .mode; pointer = h .pointer + c; view = h .view }; file = record { size = d .size } })
       unfolding writeAnswer writeAtAnswer withPointer
       next-done =
           let a = writeAtAnswer h (length file) r (pos (h .pointer)) c (length buf) in

@@ -6,15 +6,17 @@ ghost use Prim.Native.Nat.{_≤_};
 ghost use lib.ListN.{length};
 ghost use Rattle.view.specs.Limits.{maxFileLength};
 ghost use Rattle.view.specs.Types.{paper};
-ghost use Rattle.view.specs.Rules.{allowsReading, Kept};
+ghost use Rattle.view.specs.Rules.{Kept};
+ghost use Rattle.locate.specs.Spots.{Tiled, Begun};
 ghost use Rattle.lent.specs.Lists.{lentType, lentView};
-ghost use Rattle.file.specs.Handles.{freshHandle, modeGot, handleKept, fileKept, startOf};
-ghost use Rattle.file.specs.Refusals.{giveBackRefusal};
+ghost use Rattle.file.specs.Handles.{freshHandle, modeGot, startOf};
 ghost use Rattle.file.specs.Answers.{openAnswer, setViewAnswer, givenAs, GaveBack, placeAnswer, reverseAnswer, endAnswer, seekAnswer, ReadAt, ReadNext, WriteAt, WriteNext};
-ghost use Rattle.file.specs.Parts.{openedAs, refusedMove, checkedAccess, WriteJudged, seekBase};
+ghost use Rattle.file.specs.Parts.{openedAs, refusedMove, baseOn};
 use view::BytePos;
+use view::Numbers;
 use view::Offset;
 use view::Owner;
+use view::PerInstance;
 use view::View;
 
 // A file handle: the mode of the open, the individual file pointer, and the view.
@@ -45,7 +47,7 @@ impl Handle {
     pub const SEEK_END: u64 = ranges::LAST_WHENCE;
 
     // Document 01's refusal numbers of the calls; those of a set, 2 to 10, stand with their checks.
-    pub const REFUSED_HANDLE: u64 = 1;
+    pub const REFUSED_HANDLE: u64 = checks::HANDLE;
 
     pub const REFUSED_MODE: u64 = ranges::MODE;
 
@@ -53,7 +55,7 @@ impl Handle {
 
     pub const REFUSED_ROOM: u64 = ranges::ROOM;
 
-    pub const REFUSED_LENGTH: u64 = 14;
+    pub const REFUSED_LENGTH: u64 = access::LENGTH;
 
     pub const REFUSED_WHENCE: u64 = ranges::WHENCE;
 
@@ -202,29 +204,19 @@ fn mode_got(mode: u64) -> u64
     }
 }
 
-// Whether a mode allows reading.
-fn allows_reading(mode: u64) -> bool
-    ensures { λ r. ⌜ r ≡ allowsReading mode ⌝ }
+// What a seek adds its offset to: nothing, the pointer or the end of file.
+fn seek_base(pointer: u64, v: Numbers, origins: &PerInstance, size: u64, whence: u64) -> u64
+    requires { ⌜ Tiled v × Begun v (now origins) × (size ≤ maxFileLength) ⌝ }
+    ensures { λ r. ⌜ r ≡ baseOn pointer v (now (origins .entry)) size whence ⌝ }
 {
-    if mode == Handle::MODE_READING {
-        return true;
+    if whence == Handle::SEEK_SET {
+        return 0;
     }
-    mode == Handle::MODE_BOTH
-}
-
-// The checks of a write: the refusal number, and where a granted one ends.
-struct Judgement {
-    refusal: u64,
-    end: u64,
-}
-
-fn judged(refusal: u64, end: u64) -> Judgement
-    ensures { λ r. ⌜ (r .refusal ≡ refusal) × (r .end ≡ end) ⌝ }
-{
-    Judgement {
-        refusal: refusal,
-        end: end,
+    if whence == Handle::SEEK_CURRENT {
+        return pointer;
     }
+    let end = locate::end_of(v, origins, size);
+    view::natural(end.0)
 }
 
 impl Handle {
@@ -238,49 +230,6 @@ impl Handle {
             pointer: 0,
             view: view,
         }
-    }
-
-    // Check 1 where the file is not looked at, of any handle: its mode, its pointer and its view. The view's lists are lent, not copied.
-    fn kept(self) -> bool
-        ensures { λ r. ⌜ r ≡ handleKept self ⌝ }
-    {
-        if !limits::limits_kept(self.mode, self.pointer) {
-            return false;
-        }
-        held::parts_keep(
-            self.mode,
-            self.view.displacement,
-            self.view.etype.entries,
-            &self.view.etype.widths,
-            &self.view.etype.displacements,
-            self.view.etype.extent,
-            self.view.filetype.instances,
-            &self.view.filetype.origins,
-            self.view.filetype.extent,
-        )
-    }
-
-    // Check 1 where the file is looked at: also its length and its size. It does not call `kept`, since that call would copy the handle.
-    fn file_kept(self, len: u64, rec: FileRecord) -> bool
-        ensures { λ r. ⌜ r ≡ fileKept self len rec ⌝ }
-    {
-        if !limits::limits_kept(self.mode, self.pointer) {
-            return false;
-        }
-        if !limits::file_allowed(len, rec.size) {
-            return false;
-        }
-        held::parts_keep(
-            self.mode,
-            self.view.displacement,
-            self.view.etype.entries,
-            &self.view.etype.widths,
-            &self.view.etype.displacements,
-            self.view.etype.extent,
-            self.view.filetype.instances,
-            &self.view.filetype.origins,
-            self.view.filetype.extent,
-        )
     }
 
     // Opens: the default view, pointer 0 and the mode got. A refused open's handle has mode 0.
@@ -307,20 +256,16 @@ impl Handle {
     ) -> Opened
         ensures { λ r. ⌜ r ≡ setViewAnswer self (now (representation .entry)) (lentView displacement (lentType (now (ew .entry)) (now (ed .entry)) ex) (lentType (now (fw .entry)) (now (fd .entry)) fx)) ⌝ }
     {
-        if !self.kept() {
+        let v = self.view.numbers();
+        let widths = &self.view.etype.widths;
+        let displacements = &self.view.etype.displacements;
+        let origins = &self.view.filetype.origins;
+        let kept = checks::handle_kept(self.mode, self.pointer, v, widths, displacements, origins);
+        if !kept {
             return answered(Handle::REFUSED_HANDLE, self);
         }
-        let made = accept::accept(
-            self.mode,
-            representation,
-            displacement,
-            ew,
-            ed,
-            ex,
-            fw,
-            fd,
-            fx,
-        );
+        let mode = self.mode;
+        let made = accept::accept(mode, representation, displacement, ew, ed, ex, fw, fd, fx);
         if made.refusal != 0 {
             return answered(made.refusal, self);
         }
@@ -328,21 +273,6 @@ impl Handle {
         self.view = view;
         self.pointer = 0;
         answered(0, self)
-    }
-
-    // Checks 1 and 13 of giving back, by the lengths of the four lists.
-    fn give_back_refusal(self, ew: u64, ed: u64, fw: u64, fd: u64) -> u64
-        ensures { λ r. ⌜ r ≡ giveBackRefusal self ew ed fw fd ⌝ }
-    {
-        if !self.kept() {
-            return Handle::REFUSED_HANDLE;
-        }
-        let entries = self.view.etype.entries;
-        let instances = self.view.filetype.instances;
-        if !ranges::lists_long(entries, instances, ew, ed, fw, fd) {
-            return Handle::REFUSED_ROOM;
-        }
-        0
     }
 
     // Gives the view back: its typemaps at the front of the four lists, both entry counts, both extents and the displacement.
@@ -355,26 +285,39 @@ impl Handle {
     ) -> ViewGiven
         ensures { λ r. ⌜ GaveBack self (now (ew .entry)) (now (ew .exit)) (now (ed .entry)) (now (ed .exit)) (now (fw .entry)) (now (fw .exit)) (now (fd .entry)) (now (fd .exit)) r ⌝ }
     {
-        let refusal = self.give_back_refusal(
+        let v = self.view.numbers();
+        let widths = &self.view.etype.widths;
+        let displacements = &self.view.etype.displacements;
+        let origins = &self.view.filetype.origins;
+        let refusal = checks::give_back_refusal(
+            self.mode,
+            self.pointer,
+            v,
+            widths,
+            displacements,
+            origins,
             ew.len() as u64,
             ed.len() as u64,
             fw.len() as u64,
             fd.len() as u64,
         );
-        let answer = given_answer(refusal, self);
         if refusal != 0 {
-            return answer;
+            return given_answer(refusal, self);
         }
-        let view = self.view;
-        given::give_back(view, ew, ed, fw, fd);
-        answer
+        given::give_back(v, widths, displacements, origins, ew, ed, fw, fd);
+        given_answer(refusal, self)
     }
 
     // The byte at which the etype at an offset begins.
     pub fn place(self, o: Offset) -> Placed
         ensures { λ r. ⌜ r ≡ placeAnswer self (o .0) ⌝ }
     {
-        if !self.kept() {
+        let v = self.view.numbers();
+        let widths = &self.view.etype.widths;
+        let displacements = &self.view.etype.displacements;
+        let origins = &self.view.filetype.origins;
+        let kept = checks::handle_kept(self.mode, self.pointer, v, widths, displacements, origins);
+        if !kept {
             return Placed {
                 refusal: Handle::REFUSED_HANDLE,
                 count: 0,
@@ -390,8 +333,7 @@ impl Handle {
                 place: BytePos(0),
             };
         }
-        let view = self.view;
-        let place = locate::place_of(view, o);
+        let place = locate::place_of(v, &self.view.filetype.origins, o);
         Placed {
             refusal: 0,
             count: 0,
@@ -404,7 +346,12 @@ impl Handle {
     pub fn reverse(self, byte: BytePos) -> Owned
         ensures { λ r. ⌜ r ≡ reverseAnswer self (byte .0) ⌝ }
     {
-        if !self.kept() {
+        let v = self.view.numbers();
+        let widths = &self.view.etype.widths;
+        let displacements = &self.view.etype.displacements;
+        let origins = &self.view.filetype.origins;
+        let kept = checks::handle_kept(self.mode, self.pointer, v, widths, displacements, origins);
+        if !kept {
             return Owned {
                 refusal: Handle::REFUSED_HANDLE,
                 count: 0,
@@ -420,8 +367,7 @@ impl Handle {
                 owner: Owner::Nobody,
             };
         }
-        let view = self.view;
-        let owner = reverse::owner_of(view, byte);
+        let owner = reverse::owner_of(v, widths, displacements, origins, byte);
         Owned {
             refusal: 0,
             count: 0,
@@ -434,7 +380,21 @@ impl Handle {
     pub fn end(self, file: &[u8], rec: FileRecord) -> Ended
         ensures { λ r. ⌜ r ≡ endAnswer self (length (now (file .entry))) rec ⌝ }
     {
-        if !self.file_kept(file.len() as u64, rec) {
+        let v = self.view.numbers();
+        let widths = &self.view.etype.widths;
+        let displacements = &self.view.etype.displacements;
+        let origins = &self.view.filetype.origins;
+        let kept = checks::file_kept(
+            self.mode,
+            self.pointer,
+            v,
+            widths,
+            displacements,
+            origins,
+            file.len() as u64,
+            rec.size,
+        );
+        if !kept {
             return Ended {
                 refusal: Handle::REFUSED_HANDLE,
                 count: 0,
@@ -443,8 +403,7 @@ impl Handle {
                 end: Offset(0),
             };
         }
-        let view = self.view;
-        let end = locate::end_of(view, rec.size);
+        let end = locate::end_of(v, &self.view.filetype.origins, rec.size);
         Ended {
             refusal: 0,
             count: 0,
@@ -454,30 +413,30 @@ impl Handle {
         }
     }
 
-    // What a seek adds its offset to: nothing, the pointer or the end of file.
-    fn seek_base(self, rec: FileRecord, whence: u64) -> u64
-        requires { ⌜ Kept (paper (self .view)) × (rec .size ≤ maxFileLength) ⌝ }
-        ensures { λ r. ⌜ r ≡ seekBase self rec whence ⌝ }
-    {
-        if whence == Handle::SEEK_SET {
-            return 0;
-        }
-        if whence == Handle::SEEK_CURRENT {
-            return self.pointer;
-        }
-        let view = self.view;
-        let end = locate::end_of(view, rec.size);
-        view::natural(end.0)
-    }
-
     // Moves the pointer: `by`, which may be negative, is added to nothing, to the pointer or to the end of file.
     pub fn seek(mut self, file: &[u8], rec: FileRecord, by: i64, whence: u64) -> Moved
         ensures { λ r. ⌜ r ≡ seekAnswer self (length (now (file .entry))) rec by whence ⌝ }
     {
-        if !self.file_kept(file.len() as u64, rec) {
+        let v = self.view.numbers();
+        let widths = &self.view.etype.widths;
+        let displacements = &self.view.etype.displacements;
+        let origins = &self.view.filetype.origins;
+        let kept = checks::file_kept(
+            self.mode,
+            self.pointer,
+            v,
+            widths,
+            displacements,
+            origins,
+            file.len() as u64,
+            rec.size,
+        );
+        if !kept {
             return refused(Handle::REFUSED_HANDLE, self, rec);
         }
-        let target = ranges::target_of(self.seek_base(rec, whence), by);
+        let origins = &self.view.filetype.origins;
+        let base = seek_base(self.pointer, v, origins, rec.size, whence);
+        let target = ranges::target_of(base, by);
         let refusal = ranges::seek_refusal(whence, target.allowed);
         if refusal != 0 {
             return refused(refusal, self, rec);
@@ -491,25 +450,6 @@ impl Handle {
         }
     }
 
-    // Checks 1, 11, 12 and 13 of an access that the mode allows or not, for a file of `len` bytes and a buffer of `room` bytes.
-    fn access_refusal(
-        self,
-        allowed: bool,
-        len: u64,
-        rec: FileRecord,
-        o: Offset,
-        count: u64,
-        room: u64,
-    ) -> u64
-        ensures { λ r. ⌜ r ≡ checkedAccess allowed self len rec (o .0) count room ⌝ }
-    {
-        if !self.file_kept(len, rec) {
-            return Handle::REFUSED_HANDLE;
-        }
-        let packed = copier::data_size(self.view.etype.entries, &self.view.etype.widths);
-        ranges::access_refusal(allowed, o, count, packed, room)
-    }
-
     // Reads `count` etypes at offset `o` into the buffer; a read that reaches past the size moves fewer. The pointer stays.
     pub fn read_at(
         self,
@@ -521,23 +461,26 @@ impl Handle {
     ) -> Moved
         ensures { λ r. ⌜ ReadAt self (now (file .entry)) rec (o .0) count (now (buf .entry)) (now (buf .exit)) r ⌝ }
     {
-        let allowed = allows_reading(self.mode);
-        let refusal = self.access_refusal(
-            allowed,
-            file.len() as u64,
-            rec,
+        let v = self.view.numbers();
+        let widths = &self.view.etype.widths;
+        let displacements = &self.view.etype.displacements;
+        let origins = &self.view.filetype.origins;
+        let done = access::read(
+            self.mode,
+            self.pointer,
+            v,
+            widths,
+            displacements,
+            origins,
+            file,
+            rec.size,
             o,
             count,
-            buf.len() as u64,
+            buf,
         );
-        if refusal != 0 {
-            return refused(refusal, self, rec);
-        }
-        let view = self.view;
-        let moved = mover::gather(view, file, rec.size, o, count, buf);
         Moved {
-            refusal: 0,
-            count: moved,
+            refusal: done.refusal,
+            count: done.count,
             handle: self,
             file: rec,
         }
@@ -557,9 +500,26 @@ impl Handle {
     pub fn read(mut self, file: &[u8], rec: FileRecord, count: u64, buf: &mut [u8]) -> Moved
         ensures { λ r. ⌜ ReadNext self (now (file .entry)) rec count (now (buf .entry)) (now (buf .exit)) r ⌝ }
     {
-        let done = self.read_at(file, rec, self.start(), count, buf);
+        let start = self.start();
+        let v = self.view.numbers();
+        let widths = &self.view.etype.widths;
+        let displacements = &self.view.etype.displacements;
+        let origins = &self.view.filetype.origins;
+        let done = access::read(
+            self.mode,
+            self.pointer,
+            v,
+            widths,
+            displacements,
+            origins,
+            file,
+            rec.size,
+            start,
+            count,
+            buf,
+        );
         if done.refusal != 0 {
-            return done;
+            return refused(done.refusal, self, rec);
         }
         self.pointer = self.pointer + done.count;
         Moved {
@@ -568,23 +528,6 @@ impl Handle {
             handle: self,
             file: rec,
         }
-    }
-
-    // Checks 1, 11, 12, 13 and 14 of a write, and where it ends.
-    fn write_judged(self, len: u64, rec: FileRecord, o: Offset, count: u64, room: u64) -> Judgement
-        ensures { λ r. ⌜ WriteJudged self len rec (o .0) count room r ⌝ }
-    {
-        let allowed = limits::writes(self.mode);
-        let refusal = self.access_refusal(allowed, len, rec, o, count, room);
-        if refusal != 0 {
-            return judged(refusal, 0);
-        }
-        let view = self.view;
-        let end = ending::write_end(view, o, count);
-        if len < end {
-            return judged(Handle::REFUSED_LENGTH, 0);
-        }
-        judged(0, end)
     }
 
     // Writes `count` etypes of the buffer at offset `o`: the file grows to the end of the highest byte, and the gap gets zeros. The pointer stays.
@@ -598,18 +541,28 @@ impl Handle {
     ) -> Moved
         ensures { λ r. ⌜ WriteAt self (now (file .entry)) (now (file .exit)) rec (o .0) count (now (buf .entry)) r ⌝ }
     {
-        let judged = self.write_judged(file.len() as u64, rec, o, count, buf.len() as u64);
-        if judged.refusal != 0 {
-            return refused(judged.refusal, self, rec);
-        }
-        let view = self.view;
-        let mut after = rec;
-        after.size = writer::write(view, file, rec.size, o, count, judged.end, buf);
+        let v = self.view.numbers();
+        let widths = &self.view.etype.widths;
+        let displacements = &self.view.etype.displacements;
+        let origins = &self.view.filetype.origins;
+        let done = access::write(
+            self.mode,
+            self.pointer,
+            v,
+            widths,
+            displacements,
+            origins,
+            file,
+            rec.size,
+            o,
+            count,
+            buf,
+        );
         Moved {
-            refusal: 0,
-            count: count,
+            refusal: done.refusal,
+            count: done.count,
             handle: self,
-            file: after,
+            file: FileRecord { size: done.size },
         }
     }
 
@@ -617,17 +570,33 @@ impl Handle {
     pub fn write(mut self, file: &mut [u8], rec: FileRecord, count: u64, buf: &[u8]) -> Moved
         ensures { λ r. ⌜ WriteNext self (now (file .entry)) (now (file .exit)) rec count (now (buf .entry)) r ⌝ }
     {
-        let done = self.write_at(file, rec, self.start(), count, buf);
+        let begin = self.start();
+        let v = self.view.numbers();
+        let widths = &self.view.etype.widths;
+        let displacements = &self.view.etype.displacements;
+        let origins = &self.view.filetype.origins;
+        let done = access::write(
+            self.mode,
+            self.pointer,
+            v,
+            widths,
+            displacements,
+            origins,
+            file,
+            rec.size,
+            begin,
+            count,
+            buf,
+        );
         if done.refusal != 0 {
-            return done;
+            return refused(done.refusal, self, rec);
         }
         self.pointer = self.pointer + count;
-        let after = done.file;
         Moved {
             refusal: 0,
             count: count,
             handle: self,
-            file: after,
+            file: FileRecord { size: done.size },
         }
     }
 }

@@ -10,43 +10,53 @@ use Rattle.laws.specs.Lists.{front}
 use Rattle.laws.proofs.Stores.{store-same}
 use Rattle.laws.proofs.Quotients.{run-below, run-div, run-mod}
 use Rattle.view.specs.declared.View.{View}
+use Rattle.view.specs.declared.Numbers.{Numbers}
 use Rattle.view.specs.Types.{paper, entries, widthAt, displacementAt}
 use Rattle.view.specs.Rules.{Kept}
+use Rattle.view.specs.Numbers.{viewWith}
 use Rattle.view.proofs.Paper.{paper-entries, paper-file-entries, paper-width, paper-displacement, paper-file-width, paper-file-displacement, paper-instances}
-use Rattle.view.proofs.Accepted.{Facts, facts}
+use Rattle.view.proofs.Accepted.{facts}
 use Rattle.view.proofs.Held.{some-entry, few-entries, record-entry, record-few}
 use Rattle.given.specs.Parts.{groupWidth, groupDisplacement, Room, Signed}
 
-module _ (v : View) (kept : Kept (paper v)) where
-  known : Facts (paper v)
-  known = facts (paper v) kept
+-- ---- what the loops ask
 
-  -- ---- what the loops ask
+module _ (v : Numbers) (ws ds ps : List ℕ) (kept : Kept (paper (viewWith v ws ds ps))) where
+  pub etype-room : (len : ℕ) → entries (paper (viewWith v ws ds ps) .etype) ≤ len → Room (v .etype .entries) 1 len
+  etype-room len l = record {
+    some = some-entry (viewWith v ws ds ps) kept;
+    few = few-entries (viewWith v ws ds ps) kept;
+    groups = omega arith;
+    room = omega (arith, paper-entries (viewWith v ws ds ps), one-mul (v .etype .entries));
+  }
 
-  pub etype-room : (len : ℕ) → entries (paper v .etype) ≤ len → Room (v .etype .entries) 1 len
-  etype-room len l = record { some = some-entry v kept; few = few-entries v kept; groups = omega arith; room = omega (arith, paper-entries v, one-mul (v .etype .entries)) }
+  pub filetype-room : (len : ℕ) → entries (paper (viewWith v ws ds ps) .filetype) ≤ len → Room (v .etype .entries) (v .filetype .instances) len
+  filetype-room len l = record {
+    some = some-entry (viewWith v ws ds ps) kept;
+    few = few-entries (viewWith v ws ds ps) kept;
+    groups = record-few (viewWith v ws ds ps) kept;
+    room = omega (arith, paper-file-entries (viewWith v ws ds ps));
+  }
 
-  pub filetype-room : (len : ℕ) → entries (paper v .filetype) ≤ len → Room (v .etype .entries) (v .filetype .instances) len
-  filetype-room len l = record { some = some-entry v kept; few = few-entries v kept; groups = record-few v kept; room = omega (arith, paper-file-entries v) }
-
-  pub etype-signed : Signed (replicate 64 0) (v .etype .displacements) (v .etype .entries) 1
+  pub etype-signed : Signed (replicate 64 0) ds (v .etype .entries) 1
   etype-signed = record {
     small = λ g e lg le.
         let z : g ≡ 0 = omega arith in
-        rw z (omega (arith, record-entry v kept e le));
+        rw z (omega (arith, record-entry (viewWith v ws ds ps) kept e le));
   }
 
-  pub filetype-signed : Signed (v .filetype .origins) (v .etype .displacements) (v .etype .entries) (v .filetype .instances)
+  pub filetype-signed : Signed ps ds (v .etype .entries) (v .filetype .instances)
   filetype-signed = record {
     small = λ g e lg le.
         let n = v .etype .entries in
         let b = run-below (v .filetype .instances) n g e lg le in
-        let d = rw (run-div n g e le, run-mod n g e le) at (paper-file-displacement v (g * n + e) b) in
-        omega (arith, known .file-ends (g * n + e) (omega (arith, paper-file-entries v)));
+        let d = rw (run-div n g e le, run-mod n g e le) at (paper-file-displacement (viewWith v ws ds ps) (g * n + e) b) in
+        omega (arith, facts (paper (viewWith v ws ds ps)) kept .file-ends (g * n + e) (omega (arith, paper-file-entries (viewWith v ws ds ps))));
   }
 
-  -- ---- what they store
+-- ---- what they store
 
+module _ (v : View) (kept : Kept (paper v)) where
   pub etype-widths-are : (l l' : List ℕ) → l' ≡ front (groupWidth (v .etype .widths) (v .etype .entries)) (1 * v .etype .entries) l → l' ≡ front (widthAt (paper v .etype)) (entries (paper v .etype)) l
   unfolding groupWidth
   etype-widths-are l l' q =

@@ -7,8 +7,12 @@ ghost use lib.ListN.{length};
 ghost use Rattle.laws.specs.Lists.{front};
 ghost use Rattle.view.specs.Limits.{maxInstances};
 ghost use Rattle.view.specs.Types.{paper};
+ghost use Rattle.view.specs.Numbers.{viewWith};
 ghost use Rattle.given.specs.Giving.{Ready, GivenBack};
 ghost use Rattle.given.specs.Parts.{groupWidth, groupDisplacement, Room, Signed};
+use view::Numbers;
+use view::PerEntry;
+use view::PerInstance;
 use view::View;
 
 // The entry after `entry` in groups of `n`: after the last, the first of the next group.
@@ -36,7 +40,7 @@ fn shifted(origin: u64, d: u64) -> i64
 }
 
 // The widths of `k` groups of `n` entries, put at the front of `out`.
-fn give_widths(ws: &[u64; View::MAX_ETYPE_ENTRIES as usize], n: usize, k: usize, out: &mut [u64])
+fn give_widths(ws: &PerEntry, n: usize, k: usize, out: &mut [u64])
     requires { ⌜ Room n k (length (now out)) ⌝ }
     ensures { λ r. ⌜ now (out .exit) ≡ front (groupWidth (now (ws .entry)) n) (k * n) (now (out .entry)) ⌝ }
 {
@@ -51,13 +55,7 @@ fn give_widths(ws: &[u64; View::MAX_ETYPE_ENTRIES as usize], n: usize, k: usize,
 }
 
 // The displacements of `k` groups of `n` entries, each group shifted by its origin, put at the front of `out`.
-fn give_displacements(
-    origins: &[u64; View::MAX_INSTANCES as usize],
-    ds: &[u64; View::MAX_ETYPE_ENTRIES as usize],
-    n: usize,
-    k: usize,
-    out: &mut [i64],
-)
+fn give_displacements(origins: &PerInstance, ds: &PerEntry, n: usize, k: usize, out: &mut [i64])
     requires { ⌜ Room n k (length (now out)) × Signed (now origins) (now ds) n k ⌝ }
     ensures { λ r. ⌜ now (out .exit) ≡ front (groupDisplacement (now (origins .entry)) (now (ds .entry)) n) (k * n) (now (out .entry)) ⌝ }
 {
@@ -76,20 +74,24 @@ fn give_displacements(
 
 // The widths and displacements of a view's etype and filetype, put at the front of the lent lists. For our own crates.
 // `ew`, `ed` are the etype's widths and displacements; `fw`, `fd` the filetype's.
-pub fn give_back(v: View, ew: &mut [u64], ed: &mut [i64], fw: &mut [u64], fd: &mut [i64])
-    requires { ⌜ Ready (paper v) (now ew) (now ed) (now fw) (now fd) ⌝ }
-    ensures { λ r. ⌜ GivenBack (paper v) (now (ew .entry)) (now (ew .exit)) (now (ed .entry)) (now (ed .exit)) (now (fw .entry)) (now (fw .exit)) (now (fd .entry)) (now (fd .exit)) ⌝ }
+pub fn give_back<'a>(
+    v: Numbers,
+    widths: &'a PerEntry,
+    displacements: &'a PerEntry,
+    origins: &'a PerInstance,
+    ew: &mut [u64],
+    ed: &mut [i64],
+    fw: &mut [u64],
+    fd: &mut [i64],
+)
+    requires { ⌜ Ready (paper (viewWith v (now widths) (now displacements) (now origins))) (now ew) (now ed) (now fw) (now fd) ⌝ }
+    ensures { λ r. ⌜ GivenBack (paper (viewWith v (now (widths .entry)) (now (displacements .entry)) (now (origins .entry)))) (now (ew .entry)) (now (ew .exit)) (now (ed .entry)) (now (ed .exit)) (now (fw .entry)) (now (fw .exit)) (now (fd .entry)) (now (fd .exit)) ⌝ }
 {
-    let etype = v.etype;
-    let filetype = v.filetype;
-    let n = etype.entries as usize;
-    let instances = filetype.instances as usize;
-    let widths = etype.widths;
-    let displacements = etype.displacements;
-    let origins = filetype.origins;
+    let n = v.etype.entries as usize;
+    let instances = v.filetype.instances as usize;
     let unshifted = [0u64; View::MAX_INSTANCES as usize];
-    give_widths(&widths, n, 1, ew);
-    give_displacements(&unshifted, &displacements, n, 1, ed);
-    give_widths(&widths, n, instances, fw);
-    give_displacements(&origins, &displacements, n, instances, fd);
+    give_widths(widths, n, 1, ew);
+    give_displacements(&unshifted, displacements, n, 1, ed);
+    give_widths(widths, n, instances, fw);
+    give_displacements(origins, displacements, n, instances, fd);
 }

@@ -22,9 +22,6 @@ etypeOf n ws ds x = record { entries = n; widths = ws; displacements = ds; exten
 abbrev pub filetypeOf : ℕ → List ℕ → ℕ → Filetype
 filetypeOf k ps x = record { instances = k; origins = ps; extent = x }
 
-abbrev pub viewHaving : ℕ → Etype → Filetype → View
-viewHaving d e f = record { displacement = d; etype = e; filetype = f }
-
 -- ---- the etype
 
 unfoldable pub etypeHeld : Etype → Bool

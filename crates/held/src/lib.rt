@@ -5,7 +5,9 @@ ghost use mathlib.Core.Bool.{true};
 ghost use mathlib.Core.Path.{_≡_};
 ghost use Rattle.view.specs.Types.{paper};
 ghost use Rattle.view.specs.Rules.{accepted};
-ghost use Rattle.held.specs.Parts.{etypeOf, filetypeOf, viewHaving, etypeHeld, filetypeHeld, partsApart, ShapeKept};
+ghost use Rattle.view.specs.Numbers.{viewWith};
+ghost use Rattle.held.specs.Parts.{etypeOf, filetypeOf, etypeHeld, filetypeHeld, partsApart, ShapeKept};
+use view::Numbers;
 use view::PerEntry;
 use view::PerInstance;
 use view::View;
@@ -101,21 +103,21 @@ pub fn shape_apart<'a>(
     tile_end <= first + fx
 }
 
-// Whether the view of these parts, whatever their numbers, keeps the limits and rules for this mode. For our own crates.
-pub fn parts_keep<'a>(
+// Whether the view of these numbers and lists, whatever stands in them, keeps the limits and rules for this mode.
+pub fn keeps<'a>(
     mode: u64,
-    displacement: u64,
-    n: u64,
+    v: Numbers,
     widths: &'a PerEntry,
     displacements: &'a PerEntry,
-    ex: u64,
-    k: u64,
     origins: &'a PerInstance,
-    fx: u64,
 ) -> bool
-    ensures { λ r. ⌜ r ≡ accepted mode (paper (viewHaving displacement (etypeOf n (now (widths .entry)) (now (displacements .entry)) ex) (filetypeOf k (now (origins .entry)) fx))) ⌝ }
+    ensures { λ r. ⌜ r ≡ accepted mode (paper (viewWith v (now (widths .entry)) (now (displacements .entry)) (now (origins .entry)))) ⌝ }
 {
-    if View::MAX_DISPLACEMENT < displacement {
+    let n = v.etype.entries;
+    let ex = v.etype.extent;
+    let k = v.filetype.instances;
+    let fx = v.filetype.extent;
+    if View::MAX_DISPLACEMENT < v.displacement {
         return false;
     }
     if !etype_kept(n, widths, displacements, ex) {
@@ -128,21 +130,4 @@ pub fn parts_keep<'a>(
         return true;
     }
     shape_apart(n, widths, displacements, k, origins, fx)
-}
-
-// Whether a held view, whatever its numbers, keeps the limits and rules for this mode.
-pub fn keeps(v: View, mode: u64) -> bool
-    ensures { λ r. ⌜ r ≡ accepted mode (paper v) ⌝ }
-{
-    parts_keep(
-        mode,
-        v.displacement,
-        v.etype.entries,
-        &v.etype.widths,
-        &v.etype.displacements,
-        v.etype.extent,
-        v.filetype.instances,
-        &v.filetype.origins,
-        v.filetype.extent,
-    )
 }

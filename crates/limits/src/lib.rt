@@ -1,7 +1,7 @@
 // Document 01's table of limits and its modes, tested on single numbers: no list is read. These functions are pub for our own crates.
 ghost use mathlib.Core.Path.{_≡_};
 ghost use Rattle.view.specs.Limits.{widthAllowed, extentAllowed, displacementAllowed, fileAllowed};
-ghost use Rattle.view.specs.Rules.{allowsWriting};
+ghost use Rattle.view.specs.Rules.{allowsReading, allowsWriting};
 ghost use Rattle.limits.specs.Parts.{entryFits, entryLent, countsAllowed, limitsKept};
 use view::View;
 
@@ -102,6 +102,16 @@ pub fn file_allowed(len: u64, size: u64) -> bool
     size <= len
 }
 
+// Mode 1 or 3.
+pub fn reads(mode: u64) -> bool
+    ensures { λ r. ⌜ r ≡ allowsReading mode ⌝ }
+{
+    if mode == View::MODE_READING {
+        return true;
+    }
+    mode == View::MODE_BOTH // reading and writing
+}
+
 // Mode 2 or 3.
 pub fn writes(mode: u64) -> bool
     ensures { λ r. ⌜ r ≡ allowsWriting mode ⌝ }
@@ -109,7 +119,7 @@ pub fn writes(mode: u64) -> bool
     if mode == View::MODE_WRITING {
         return true;
     }
-    mode == View::MODE_BOTH
+    mode == View::MODE_BOTH // writing and reading
 }
 
 // Whether a handle's mode and pointer are within their limits.

@@ -1,6 +1,7 @@
--- No step on the way to a place or to an end of file wraps, and what is computed on the record is what the definitions say of the view on paper.
+-- No step on the way to a place or to an end of file wraps, and each step leads where the definitions on numbers say.
 use Prim.Native.Nat.{ℕ, _+_, _-_, _*_, _/_, _%_, _≤_, _<_}
 use mathlib.Core.Bool.{true}
+use mathlib.Core.List.{List}
 use mathlib.Core.Logic.{⊎-elim}
 use mathlib.Core.Path.{_≡_, refl, sym, ap, _∙_}
 use native.Mathlib.Nat.{mul-le-mul, div-le-self, mod-lt}
@@ -12,20 +13,15 @@ use mir.Syntax.{w64}
 use mir.Val.{Fits, toZ, ofZ}
 use mir.Facts.{toZ-ofZ}
 use Rattle.laws.specs.Lists.{nth}
-use Rattle.laws.specs.Search.{greatest}
-use Rattle.laws.proofs.Sums.{Highest, highest-none, highest-more, highest-end, greatest-least, greatest-same}
+use Rattle.laws.proofs.Sums.{Highest, highest-none, highest-more, highest-end, greatest-least}
 use Rattle.laws.proofs.Booleans.{not-both, lt-or-le}
 use Rattle.laws.proofs.Quotients.{next-in, next-over, times-more}
-use Rattle.view.specs.declared.View.{View}
+use Rattle.view.specs.declared.Numbers.{Numbers}
 use Rattle.view.specs.Limits.{offsetAllowed}
-use Rattle.view.specs.Types.{paper, entries, whole}
-use Rattle.view.specs.Rules.{instances, Kept}
-use Rattle.view.specs.Places.{place}
-use Rattle.view.specs.End.{endFrom, endOfFile}
+use Rattle.view.specs.Types.{whole}
+use Rattle.view.specs.End.{endFrom}
 use Rattle.locate.specs.declared.Spot.{Spot}
-use Rattle.locate.specs.Spots.{SpotAt, nextSpot, SpotKept}
-use Rattle.view.proofs.Paper.{paper-entries, paper-instances, paper-origin, paper-place, paper-file-extent, paper-start}
-use Rattle.view.proofs.Held.{start-small, some-entry, record-some, record-few, record-extent, extent-small, record-origin}
+use Rattle.locate.specs.Spots.{Tiled, Begun, spotAt, placeOn, nextSpot, SpotKept, endAt, endOn}
 
 offset-small : (z : ℤ) → offsetAllowed z ≡ true → whole z ≤ 4294967295
 unfolding offsetAllowed whole
@@ -50,14 +46,6 @@ module _ (size start f n i : ℕ) (hs : size ≤ 1099511627776) (hn : n ≤ 64) 
   pub end-fits : Fits w64 ((size - start - 1) / f * n + i + 1)
   end-fits = record { fits = omega (arith, before) }
 
--- the end of instance i, on the record
-unfoldable pub endOn : View → ℕ → ℕ → ℕ
-endOn v size i = endFrom (v .displacement + nth (v .filetype .origins) i) size (v .filetype .extent) (v .filetype .instances) i
-
-pub end-on : (v : View) (size i e : ℕ) → e ≡ endFrom (v .displacement + getD (v .filetype .origins) i 0) size (v .filetype .extent) (v .filetype .instances) i → e ≡ endOn v size i
-unfolding endOn
-end-on v size i e h = h
-
 -- the machine's reading of an offset's bits is the offset
 pub offset-read : (z : ℤ) → offsetAllowed z ≡ true → toZ w64 (ofZ w64 z) ≡ z
 unfolding offsetAllowed
@@ -79,130 +67,115 @@ module _ (s : Spot) (k f : ℕ) where
   unfolding nextSpot
   step-over l = rw (le-ltb (s .instance + 1) k l)
 
--- ---- what the record of a kept view holds
+-- ---- the spot of an offset
 
-module _ (v : View) (k : Kept (paper v)) where
-  pub origin-below : (i : ℕ) → i < v .filetype .instances → i < 64
-  origin-below i l = omega (arith, record-few v k)
-
-  -- ---- the place of an offset
-
-  module _ (o : ℤ) (ok : offsetAllowed o ≡ true) where
-    tiles : whole o / v .filetype .instances * v .filetype .extent ≤ 4503599626321920
-    tiles =
-        let q = div-le-self (whole o) (v .filetype .instances) in
-        let a : whole o / v .filetype .instances ≤ 4294967295 = omega (arith, offset-small o ok) in
-        mul-le-mul a (extent-small v k)
-
-    -- `at` is the offset as the machine reads it
-    module _ (at : ℕ) (read : at ≡ whole (toZ w64 (ofZ w64 o))) where
-      e : at ≡ whole o
-      e = read ∙ ap whole (offset-read o ok)
-
-      pub step-fits : Fits w64 (at / v .filetype .instances * v .filetype .extent)
-      step-fits = rw e (record { fits = omega (arith, tiles) })
-
-      pub tile-fits : Fits w64 (v .displacement + at / v .filetype .instances * v .filetype .extent)
-      tile-fits = rw e (record { fits = omega (arith, tiles, (start-small v k)) })
-
-      pub spot-made : SpotAt (paper v) (whole o) (record { tile = record { 0 = v .displacement + at / v .filetype .instances * v .filetype .extent }; instance = at % v .filetype .instances })
-      spot-made = record {
-        tile = rw (e, paper-instances v (some-entry v k), paper-start v, paper-file-extent v);
-        instance = rw (e, paper-instances v (some-entry v k));
-      }
-
-  -- ---- the spot of an offset
-
+module _ (v : Numbers) (k : Tiled v) where
   tile-small : (x : ℕ) → x < 4294967296 → x / v .filetype .instances * v .filetype .extent ≤ 4503599626321920
   tile-small x l =
       let q = div-le-self x (v .filetype .instances) in
       let a : x / v .filetype .instances ≤ 4294967295 = omega arith in
-      mul-le-mul a (extent-small v k)
+      mul-le-mul a (k .small)
 
-  module _ (x : ℕ) (s : Spot) (at : SpotAt (paper v) x s) where
+  -- `at` is the offset as the machine reads it
+  module _ (o : ℤ) (ok : offsetAllowed o ≡ true) (at : ℕ) (read : at ≡ whole (toZ w64 (ofZ w64 o))) where
+    is : at ≡ whole o
+    is = read ∙ ap whole (offset-read o ok)
+
+    tiles : at / v .filetype .instances * v .filetype .extent ≤ 4503599626321920
+    tiles = tile-small at (omega (arith, is, offset-below o ok))
+
+    pub step-fits : Fits w64 (at / v .filetype .instances * v .filetype .extent)
+    step-fits = record { fits = omega (arith, tiles) }
+
+    pub tile-fits : Fits w64 (v .displacement + at / v .filetype .instances * v .filetype .extent)
+    tile-fits = record { fits = omega (arith, tiles, k .start) }
+
+    pub spot-made : record { tile = record { 0 = v .displacement + at / v .filetype .instances * v .filetype .extent }; instance = at % v .filetype .instances } ≡ spotAt v (whole o)
+    unfolding spotAt
+    spot-made = ap (spotAt v) is
+
+  module _ (x : ℕ) (s : Spot) (at : s ≡ spotAt v x) where
     spot-tile : s .tile .0 ≡ v .displacement + x / v .filetype .instances * v .filetype .extent
-    spot-tile = rw (paper-instances v (some-entry v k), paper-start v, paper-file-extent v) at (at .tile)
+    unfolding spotAt
+    spot-tile = ap (λ z. z .tile .0) at
 
     spot-instance : s .instance ≡ x % v .filetype .instances
-    spot-instance = rw (paper-instances v (some-entry v k)) at (at .instance)
+    unfolding spotAt
+    spot-instance = ap (λ z. z .instance) at
 
     instance-below : s .instance < v .filetype .instances
-    instance-below = rw spot-instance (mod-lt x {m = v .filetype .instances} (record-some v k))
+    instance-below = rw spot-instance (mod-lt x {m = v .filetype .instances} (k .some))
 
     pub spot-held : s .instance < 64
-    spot-held = omega (arith, instance-below, (record-few v k))
+    spot-held = omega (arith, instance-below, k .few)
 
-    -- where the etype at x begins
-    pub spot-place : s .tile .0 + nth (v .filetype .origins) (s .instance) ≡ place (paper v) x
-    spot-place = rw (spot-tile, spot-instance) (sym (paper-place v (some-entry v k) (record-some v k) x))
+    pub spot-step : x < 4294967296 → s .tile .0 + v .filetype .extent < 18446744073709551616
+    spot-step l = omega (arith, spot-tile, tile-small x l, k .start, k .small)
 
-    pub spot-placed : (r : ℕ) → r ≡ s .tile .0 + nth (v .filetype .origins) (s .instance) → r ≡ place (paper v) x
-    spot-placed r e = e ∙ spot-place
+    pub spot-placed : (ps : List ℕ) (r : ℕ) → r ≡ s .tile .0 + nth ps (s .instance) → r ≡ placeOn v ps x
+    unfolding placeOn
+    spot-placed ps r e = rw (spot-tile, spot-instance) at e
 
-    module _ (l : x < 4294967296) where
-      pub spot-step : s .tile .0 + v .filetype .extent < 18446744073709551616
-      spot-step = omega (arith, spot-tile, tile-small x l, (start-small v k), (extent-small v k))
-
+    module _ (ps : List ℕ) (b : Begun v ps) (l : x < 4294967296) where
       -- no etype begins past this
-      pub spot-small : s .tile .0 + nth (v .filetype .origins) (s .instance) < 4505798650626048
-      spot-small = omega (arith, spot-tile, tile-small x l, (start-small v k), record-origin v k (s .instance) instance-below)
+      pub spot-small : s .tile .0 + nth ps (s .instance) < 4505798650626048
+      spot-small = omega (arith, spot-tile, tile-small x l, k .start, b .origin (s .instance) instance-below)
 
-      pub spot-kept : SpotKept (v .filetype .origins) s
+      pub spot-kept : SpotKept ps s
       spot-kept = record { held = spot-held; fits = omega (arith, spot-small) }
 
     -- a step leads to the spot of the next offset
     module _ (r : Spot) (q : r ≡ nextSpot s (v .filetype .instances) (v .filetype .extent)) where
-      next-inside : s .instance + 1 < v .filetype .instances → SpotAt (paper v) (x + 1) r
-      unfolding nextSpot
+      next-inside : s .instance + 1 < v .filetype .instances → r ≡ spotAt v (x + 1)
+      unfolding nextSpot spotAt
       next-inside b =
           let z = rw (lt-ltb (s .instance + 1) (v .filetype .instances) b) at q in
           let n = next-in (v .filetype .instances) x (omega (arith, spot-instance)) in
-          record {
-            tile = rw (z, paper-instances v (some-entry v k), paper-start v, paper-file-extent v, n .0) spot-tile;
-            instance = rw (z, paper-instances v (some-entry v k), n .1) (omega (arith, spot-instance));
-          }
+          rw (n .0, n .1) (rw at at z)
 
-      next-tile : v .filetype .instances ≤ s .instance + 1 → SpotAt (paper v) (x + 1) r
-      unfolding nextSpot
+      next-tile : v .filetype .instances ≤ s .instance + 1 → r ≡ spotAt v (x + 1)
+      unfolding nextSpot spotAt
       next-tile b =
           let z = rw (le-ltb (s .instance + 1) (v .filetype .instances) b) at q in
-          let n = next-over (v .filetype .instances) x (record-some v k) (omega (arith, spot-instance, instance-below)) in
-          record {
-            tile = rw (z, paper-instances v (some-entry v k), paper-start v, paper-file-extent v, n .0, times-more (x / v .filetype .instances) (v .filetype .extent)) (omega (arith, spot-tile));
-            instance = rw (z, paper-instances v (some-entry v k), n .1);
-          }
+          let n = next-over (v .filetype .instances) x (k .some) (omega (arith, spot-instance, instance-below)) in
+          let t : s .tile .0 + v .filetype .extent ≡ v .displacement + (x / v .filetype .instances * v .filetype .extent + v .filetype .extent) = omega (arith, spot-tile) in
+          rw (n .0, n .1, times-more (x / v .filetype .instances) (v .filetype .extent)) (z ∙ (λ i. record { tile = record { 0 = t i }; instance = 0 }))
 
-      pub spot-next : SpotAt (paper v) (x + 1) r
+      pub spot-next : r ≡ spotAt v (x + 1)
       spot-next = ⊎-elim next-inside next-tile (lt-or-le (s .instance + 1) (v .filetype .instances))
 
   -- ---- end of file
 
-  pub start-fits : (i : ℕ) → i < v .filetype .instances → Fits w64 (v .displacement + getD (v .filetype .origins) i 0)
-  start-fits i l = record { fits = omega (arith, record-origin v k i l, (start-small v k)) }
+  pub origin-below : (i : ℕ) → i < v .filetype .instances → i < 64
+  origin-below i l = omega (arith, k .few)
 
-  end-is : (size : ℕ) → greatest (endOn v size) (v .filetype .instances) ≡ endOfFile (paper v) size
-  unfolding endOfFile endOn
-  end-is size =
-      rw (paper-instances v (some-entry v k), paper-start v, paper-file-extent v)
-      (greatest-same _ _ (v .filetype .instances) (λ i l. rw (paper-origin v (some-entry v k) i l)))
+  module _ (ps : List ℕ) where
+    pub start-fits : Begun v ps → (i : ℕ) → i < v .filetype .instances → Fits w64 (v .displacement + getD ps i 0)
+    start-fits b i l = record { fits = omega (arith, b .origin i l, k .start) }
 
-  pub end-found : (size i e : ℕ) (z : ℤ) → Highest (endOn v size) i (v .filetype .instances) e → v .filetype .instances ≤ i → z ≡ pos e → z ≡ pos (endOfFile (paper v) size)
-  end-found size i e z h l q = q ∙ ap pos (highest-end (endOn v size) i (v .filetype .instances) e h l ∙ end-is size)
+    module _ (size : ℕ) where
+      pub end-at : (i e : ℕ) → e ≡ endFrom (v .displacement + getD ps i 0) size (v .filetype .extent) (v .filetype .instances) i → e ≡ endAt v ps size i
+      unfolding endAt
+      end-at i e h = h
 
-  end-small : (size i : ℕ) → size ≤ 1099511627776 → i < v .filetype .instances → endOn v size i ≤ 70368744177729
-  unfolding endOn endFrom
-  end-small size i hs l = ⊎-elim
-      (λ q. rw (lt-ltb (v .displacement + nth (v .filetype .origins) i) size q) (omega (arith, before size (v .displacement + nth (v .filetype .origins) i) (v .filetype .extent) (v .filetype .instances) i hs (record-few v k) l, (record-few v k))))
-      (λ q. rw (le-ltb (v .displacement + nth (v .filetype .origins) i) size q) (omega arith))
-      (lt-or-le (v .displacement + nth (v .filetype .origins) i) size)
+      pub end-found : (i e : ℕ) (z : ℤ) → Highest (endAt v ps size) i (v .filetype .instances) e → v .filetype .instances ≤ i → z ≡ pos e → z ≡ pos (endOn v ps size)
+      unfolding endOn
+      end-found i e z h l q = q ∙ ap pos (highest-end (endAt v ps size) i (v .filetype .instances) e h l)
 
-  -- end of file fits a signed number
-  pub end-bound : (size : ℕ) → size ≤ 1099511627776 → endOfFile (paper v) size < 9223372036854775808
-  end-bound size hs =
-      let b = greatest-least (endOn v size) (v .filetype .instances) 70368744177729 (λ k l. end-small size k hs l) in
-      omega (arith, end-is size)
+      module _ (hs : size ≤ 1099511627776) where
+        end-small : (i : ℕ) → i < v .filetype .instances → endAt v ps size i ≤ 70368744177729
+        unfolding endAt endFrom
+        end-small i l = ⊎-elim
+            (λ q. rw (lt-ltb (v .displacement + nth ps i) size q) (omega (arith, before size (v .displacement + nth ps i) (v .filetype .extent) (v .filetype .instances) i hs (k .few) l, k .few)))
+            (λ q. rw (le-ltb (v .displacement + nth ps i) size q) (omega arith))
+            (lt-or-le (v .displacement + nth ps i) size)
 
-  pub end-signed : (size i e : ℕ) → size ≤ 1099511627776 → Highest (endOn v size) i (v .filetype .instances) e → e < 9223372036854775808
-  end-signed size i e hs h =
-      let b = greatest-least (endOn v size) i 70368744177729 (λ k l. end-small size k hs (omega (arith, h .reached))) in
-      omega (arith, h .is)
+        -- end of file fits a signed number
+        pub end-bound : endOn v ps size < 9223372036854775808
+        unfolding endOn
+        end-bound = let b = greatest-least (endAt v ps size) (v .filetype .instances) 70368744177729 end-small in omega arith
+
+        pub end-signed : (i e : ℕ) → Highest (endAt v ps size) i (v .filetype .instances) e → e < 9223372036854775808
+        end-signed i e h =
+            let b = greatest-least (endAt v ps size) i 70368744177729 (λ j l. end-small j (omega (arith, h .reached))) in
+            omega (arith, h .is)

@@ -6,15 +6,13 @@ ghost use Prim.Native.Nat.{_+_, _≤_, _<_};
 ghost use lib.IntN.{pos};
 ghost use Rattle.laws.specs.Lists.{nth};
 ghost use Rattle.view.specs.Limits.{maxInstances, maxFileLength, offsetAllowed};
-ghost use Rattle.view.specs.Types.{paper, whole};
-ghost use Rattle.view.specs.Rules.{Kept};
-ghost use Rattle.view.specs.Places.{place};
-ghost use Rattle.view.specs.End.{endFrom, endOfFile};
-ghost use Rattle.locate.specs.Spots.{SpotAt, nextSpot, SpotKept};
+ghost use Rattle.view.specs.Types.{whole};
+ghost use Rattle.view.specs.End.{endFrom};
+ghost use Rattle.locate.specs.Spots.{Tiled, Begun, spotAt, nextSpot, SpotKept, placeOn, endOn};
 use view::BytePos;
+use view::Numbers;
 use view::Offset;
 use view::PerInstance;
-use view::View;
 
 // The tile and the instance of an offset: where its tile begins, and which instance of the tile it is.
 pub struct Spot {
@@ -23,15 +21,14 @@ pub struct Spot {
 }
 
 // The spot of offset `o`, by the one division of an access. For our own crates.
-pub fn spot_of(v: View, o: Offset) -> Spot
-    requires { ⌜ Kept (paper v) × (offsetAllowed (o .0) ≡ true) ⌝ }
-    ensures { λ r. ⌜ SpotAt (paper v) (whole (o .0)) r ⌝ }
+pub fn spot_of(v: Numbers, o: Offset) -> Spot
+    requires { ⌜ Tiled v × (offsetAllowed (o .0) ≡ true) ⌝ }
+    ensures { λ r. ⌜ r ≡ spotAt v (whole (o .0)) ⌝ }
 {
     let at = view::natural(o.0);
-    let filetype = v.filetype;
-    let instances = filetype.instances;
+    let instances = v.filetype.instances;
     let tile = at / instances;
-    let step = tile * filetype.extent;
+    let step = tile * v.filetype.extent;
     let begin = v.displacement + step;
     let instance = at % instances;
     Spot {
@@ -71,12 +68,12 @@ pub fn begin_at(origins: &PerInstance, s: Spot) -> BytePos
 }
 
 // The byte at which the etype at offset `o` begins. For our own crates.
-pub fn place_of(v: View, o: Offset) -> BytePos
-    requires { ⌜ Kept (paper v) × (offsetAllowed (o .0) ≡ true) ⌝ }
-    ensures { λ r. ⌜ r .0 ≡ place (paper v) (whole (o .0)) ⌝ }
+pub fn place_of(v: Numbers, origins: &PerInstance, o: Offset) -> BytePos
+    requires { ⌜ Tiled v × Begun v (now origins) × (offsetAllowed (o .0) ≡ true) ⌝ }
+    ensures { λ r. ⌜ r .0 ≡ placeOn v (now (origins .entry)) (whole (o .0)) ⌝ }
 {
     let spot = spot_of(v, o);
-    begin_at(&v.filetype.origins, spot)
+    begin_at(origins, spot)
 }
 
 // One past the last offset that is instance `i` of its tile and begins below `size`, or 0.
@@ -95,15 +92,13 @@ fn end_from(start: u64, size: u64, extent: u64, instances: u64, i: u64) -> u64
     }
 }
 
-// End of file in etypes, by one division for each instance: places need not rise with the offset.
-pub fn end_of(v: View, size: u64) -> Offset
-    requires { ⌜ Kept (paper v) × (size ≤ maxFileLength) ⌝ }
-    ensures { λ r. ⌜ r .0 ≡ pos (endOfFile (paper v) size) ⌝ }
+// End of file in etypes, by one division for each instance: places need not rise with the offset. For our own crates.
+pub fn end_of(v: Numbers, origins: &PerInstance, size: u64) -> Offset
+    requires { ⌜ Tiled v × Begun v (now origins) × (size ≤ maxFileLength) ⌝ }
+    ensures { λ r. ⌜ r .0 ≡ pos (endOn v (now (origins .entry)) size) ⌝ }
 {
-    let filetype = v.filetype;
-    let instances = filetype.instances;
-    let extent = filetype.extent;
-    let origins = filetype.origins;
+    let instances = v.filetype.instances;
+    let extent = v.filetype.extent;
     let mut end = 0;
     let mut i = 0;
     while i < instances {

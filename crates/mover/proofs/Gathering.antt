@@ -17,10 +17,11 @@ use Rattle.laws.proofs.Quotients.{times-more}
 use Rattle.view.specs.declared.View.{View}
 use Rattle.view.specs.Types.{PaperView, paper, whole}
 use Rattle.view.specs.Places.{place, byteOf, dataSize}
+use Rattle.view.specs.Numbers.{numbersOf}
 use Rattle.view.proofs.Held.{record-allowed}
 use Rattle.rules.specs.Parts.{reachOf}
 use Rattle.locate.specs.declared.Spot.{Spot}
-use Rattle.locate.specs.Spots.{SpotAt, nextSpot}
+use Rattle.locate.specs.Spots.{spotAt, nextSpot}
 use Rattle.copier.specs.Parts.{sizeOf, byteIn, placeIn, Lies}
 use Rattle.mover.specs.Moves.{fileByte, inFile, moved, readInto}
 use Rattle.mover.specs.Parts.{Movable, ReadDone}
@@ -55,7 +56,7 @@ module _ (v : View) (file buf₀ : List ℕ) (size : ℕ) (o : ℤ) (c : ℕ) (h
   is : first ≡ whole o
   is = first-is v o c (h .ranged) some first read
 
-  pub gathering-none : S ≡ sizeOf (v .etype .entries) (v .etype .widths) → r ≡ reachOf (v .etype .widths) (v .etype .displacements) (v .etype .entries) → (s : Spot) → SpotAt (paper v) (whole o) s → length buf₀ < 2 ^ 64 → Gathering v file size first c S r buf₀ buf₀ first s
+  pub gathering-none : S ≡ sizeOf (v .etype .entries) (v .etype .widths) → r ≡ reachOf (v .etype .widths) (v .etype .displacements) (v .etype .entries) → (s : Spot) → s ≡ spotAt (numbersOf v) (whole o) → length buf₀ < 2 ^ 64 → Gathering v file size first c S r buf₀ buf₀ first s
   unfolding readInto
   gathering-none sized reaches s at held =
       let e : first - first ≡ 0 = omega arith in

@@ -1,6 +1,7 @@
 -- What both movers and the end of a write share: a walk from the spot of an offset to that of the next, in which no sum wraps, and the part of the buffer that belongs to each etype.
 use Prim.Native.Nat.{ℕ, _+_, _-_, _*_, _^_, _≤_, _<_}
 use mathlib.Core.Bool.{true}
+use mathlib.Core.List.{List}
 use mathlib.Core.Logic.{⊎-elim}
 use mathlib.Core.Path.{_≡_, ap, _∙_}
 use native.Mathlib.Nat.{eq-zero-or-pos, mul-le-mul-right}
@@ -11,14 +12,17 @@ use mir.Val.{Fits, toZ, ofZ}
 use Rattle.laws.specs.Lists.{nth}
 use Rattle.laws.proofs.Quotients.{run-div, run-mod, times-more}
 use Rattle.view.specs.declared.View.{View}
+use Rattle.view.specs.declared.Numbers.{Numbers}
 use Rattle.view.specs.Limits.{offsetAllowed}
 use Rattle.view.specs.Types.{PaperView, paper, whole}
 use Rattle.view.specs.Rules.{Kept}
 use Rattle.view.specs.Places.{place, byteOf, dataSize}
+use Rattle.view.specs.Numbers.{numbersOf, viewWith}
 use Rattle.rules.specs.Parts.{reachOf}
 use Rattle.locate.specs.declared.Spot.{Spot}
-use Rattle.locate.specs.Spots.{SpotAt, nextSpot, SpotKept}
-use Rattle.locate.proofs.Placing.{offset-read, spot-held, spot-place, spot-step, spot-small, spot-kept, spot-next}
+use Rattle.locate.specs.Spots.{Tiled, spotAt, nextSpot, SpotKept}
+use Rattle.locate.proofs.Placing.{offset-read, spot-held, spot-placed, spot-step, spot-small, spot-kept, spot-next}
+use Rattle.locate.proofs.Laid.{tiled, begun, place-is}
 use Rattle.copier.specs.Parts.{sizeOf}
 use Rattle.mover.specs.Moves.{fileByte}
 use Rattle.mover.specs.Parts.{Ranged}
@@ -35,26 +39,29 @@ pub record Walking (v : View) (o last x : ℕ) (s : Spot) : Type 0 where
   pub bound : last ≤ 4294967296
   pub begun : o ≤ x
   pub reached : x ≤ last
-  pub spot : SpotAt (paper v) x s
+  pub spot : s ≡ spotAt (numbersOf v) x
 
-pub walk-none : (v : View) (o last : ℕ) (s : Spot) → Kept (paper v) → last ≤ 4294967296 → o ≤ last → SpotAt (paper v) o s → Walking v o last o s
+pub walk-none : (v : View) (o last : ℕ) (s : Spot) → Kept (paper v) → last ≤ 4294967296 → o ≤ last → s ≡ spotAt (numbersOf v) o → Walking v o last o s
 walk-none v o last s k b l at = record { kept = k; bound = b; begun = omega arith; reached = l; spot = at }
 
 module _ (v : View) (o last x : ℕ) (s : Spot) (w : Walking v o last x s) (l : x < last) where
   below : x < 4294967296
   below = omega (arith, w .bound)
 
+  tiles : Tiled (numbersOf v)
+  tiles = tiled v (w .kept)
+
   pub walk-fits : Fits w64 (x + 1)
   walk-fits = record { fits = omega (arith, below) }
 
   pub walk-kept : SpotKept (v .filetype .origins) s
-  walk-kept = spot-kept v (w .kept) x s (w .spot) below
+  walk-kept = spot-kept (numbersOf v) tiles x s (w .spot) (v .filetype .origins) (begun v (w .kept)) below
 
   pub walk-held : s .instance < 64
-  walk-held = spot-held v (w .kept) x s (w .spot)
+  walk-held = spot-held (numbersOf v) tiles x s (w .spot)
 
   pub walk-step : s .tile .0 + v .filetype .extent < 18446744073709551616
-  walk-step = spot-step v (w .kept) x s (w .spot) below
+  walk-step = spot-step (numbersOf v) tiles x s (w .spot) below
 
   pub walk-more : (s' : Spot) → s' ≡ nextSpot s (v .filetype .instances) (v .filetype .extent) → Walking v o last (x + 1) s'
   walk-more s' n = record {
@@ -62,16 +69,16 @@ module _ (v : View) (o last x : ℕ) (s : Spot) (w : Walking v o last x s) (l : 
     bound = w .bound;
     begun = omega (arith, w .begun);
     reached = omega arith;
-    spot = spot-next v (w .kept) x s (w .spot) s' n;
+    spot = spot-next (numbersOf v) tiles x s (w .spot) s' n;
   }
 
   -- p is where the etype at x begins, r how far it reaches
   module _ (p : ℕ) (begins : p ≡ s .tile .0 + nth (v .filetype .origins) (s .instance)) where
     pub walk-place : p ≡ place (paper v) x
-    walk-place = begins ∙ spot-place v (w .kept) x s (w .spot)
+    walk-place = spot-placed (numbersOf v) tiles x s (w .spot) (v .filetype .origins) p begins ∙ place-is v (w .kept) x
 
     pub walk-end-fits : (r : ℕ) → r ≡ reachOf (v .etype .widths) (v .etype .displacements) (v .etype .entries) → Fits w64 (p + r)
-    walk-end-fits r e = record { fits = omega (arith, spot-small v (w .kept) x s (w .spot) below, reach-small v (w .kept)) }
+    walk-end-fits r e = record { fits = omega (arith, spot-small (numbersOf v) tiles x s (w .spot) (v .filetype .origins) (begun v (w .kept)) below, reach-small v (w .kept)) }
 
   -- S bytes of the buffer, from (x - o)·S on, are the etype's
   module _ (S : ℕ) (sized : S ≡ sizeOf (v .etype .entries) (v .etype .widths)) where
@@ -101,5 +108,18 @@ module _ (v : View) (o : ℤ) (c : ℕ) (h : Ranged v o c) (some : c ≡ 0 → �
     pub last-fits : Fits w64 (first + c)
     last-fits = record { fits = omega (arith, last-bound) }
 
-    pub walk-begun : (s : Spot) → SpotAt (paper v) (whole o) s → Walking v first (first + c) first s
+    pub walk-begun : (s : Spot) → s ≡ spotAt (numbersOf v) (whole o) → Walking v first (first + c) first s
     walk-begun s at = walk-none v first (first + c) s (h .kept) last-bound (omega arith) (rw first-is at)
+
+-- ---- what the functions on places ask for, of a view lent as numbers and lists
+
+module _ (v : Numbers) (ws ds ps : List ℕ) where
+  pub lent-tiled : (o : ℤ) (c : ℕ) → Ranged (viewWith v ws ds ps) o c → Tiled v
+  lent-tiled o c h = tiled (viewWith v ws ds ps) (h .kept)
+
+  module _ (o last x : ℕ) (s : Spot) (w : Walking (viewWith v ws ds ps) o last x s) (l : x < last) where
+    pub lent-kept : SpotKept ps s
+    lent-kept = walk-kept (viewWith v ws ds ps) o last x s w l
+
+    pub lent-step : s .tile .0 + v .filetype .extent < 18446744073709551616
+    lent-step = walk-step (viewWith v ws ds ps) o last x s w l

@@ -1,23 +1,34 @@
 -- What the program's calls require: a view that passed the test is kept, and its first offsets are allowed.
 use Prim.Native.Nat.{ℕ, _<_}
 use mathlib.Core.Bool.{Bool, true, false, not}
+use mathlib.Core.List.{List}
 use mathlib.Core.Path.{_≡_, ap, _∙_}
 use native.Mathlib.Omega.{arith}
 use borrow.Author.Needs.{needs}
 use borrow.Author.Tests.{lt-ltb}
 use lib.IntN.{ℤ, pos}
 use Rattle.laws.proofs.Booleans.{unflag-true}
-use Rattle.view.specs.declared.View.{View}
+use Rattle.view.specs.declared.Numbers.{Numbers}
 use Rattle.view.specs.Limits.{offsetAllowed}
 use Rattle.view.specs.Types.{paper}
 use Rattle.view.specs.Rules.{accepted, Kept}
+use Rattle.view.specs.Numbers.{viewWith}
 use Rattle.view.proofs.Accepted.{accepted-kept}
+use Rattle.locate.specs.Spots.{Tiled, Begun}
+use Rattle.locate.proofs.Laid.{tiled, begun}
 
-pub tested-kept : (v : View) (mode : ℕ) (t : Bool) → t ≡ accepted mode (paper v) → not t ≡ false → Kept (paper v)
-tested-kept v mode t e h = accepted-kept mode (paper v) (unflag-true t _ e h)
+module _ (v : Numbers) (ws ds ps : List ℕ) (mode : ℕ) (t : Bool) (e : t ≡ accepted mode (paper (viewWith v ws ds ps))) (h : not t ≡ false) where
+  kept : Kept (paper (viewWith v ws ds ps))
+  kept = accepted-kept mode (paper (viewWith v ws ds ps)) (unflag-true t _ e h)
+
+  pub tested-tiled : Tiled v
+  tested-tiled = tiled (viewWith v ws ds ps) kept
+
+  pub tested-begun : Begun v ps
+  tested-begun = begun (viewWith v ws ds ps) kept
 
 pub first-allowed : (z : ℤ) (o : ℕ) → z ≡ pos o → o < 5 → offsetAllowed z ≡ true
 unfolding offsetAllowed
 first-allowed z o e l = ap offsetAllowed e ∙ lt-ltb o 4294967296 (omega arith)
 
-pub ruleset showing = (needs, tested-kept, first-allowed)
+pub ruleset showing = (needs, tested-tiled, tested-begun, first-allowed)

@@ -1,25 +1,35 @@
 // Shows views of document 01 as a planner would look at them: the refusal number of a set, where the first offsets begin, and end of file.
 use libc::STDOUT_FILENO;
+use view::Numbers;
+use view::PerEntry;
+use view::PerInstance;
 use view::View;
 
 const OFFSETS: u64 = 5;
 
 // Where the first offsets of a view begin, and end of file at `size`, on one line.
-fn show_places(v: View, mode: u64, size: u64) {
-    if !held::keeps(v, mode) {
+fn show_places<'a>(
+    v: Numbers,
+    widths: &'a PerEntry,
+    displacements: &'a PerEntry,
+    origins: &'a PerInstance,
+    mode: u64,
+    size: u64,
+) {
+    if !held::keeps(mode, v, widths, displacements, origins) {
         io::write_all(STDOUT_FILENO, b"refusal 1\n");
         return;
     }
     io::write_all(STDOUT_FILENO, b"places");
     let mut o = 0;
     while o < OFFSETS {
-        let place = locate::place_of(v, view::to_offset(o));
+        let place = locate::place_of(v, origins, view::to_offset(o));
         io::write_all(STDOUT_FILENO, b" ");
         io::print_decimal(STDOUT_FILENO, place.0);
         o += 1;
     }
     if size <= View::MAX_FILE_SIZE {
-        let end = locate::end_of(v, size);
+        let end = locate::end_of(v, origins, size);
         io::write_all(STDOUT_FILENO, b"; end at size ");
         io::print_decimal(STDOUT_FILENO, size);
         io::write_all(STDOUT_FILENO, b" is ");
@@ -53,7 +63,14 @@ fn show_words(displacement: i64, ws: &[u64], ds: &[i64], extent: i64, mode: u64,
     }
     io::write_all(STDOUT_FILENO, b"; ");
     let v = r.view;
-    show_places(v, mode, size);
+    show_places(
+        v.numbers(),
+        &v.etype.widths,
+        &v.etype.displacements,
+        &v.filetype.origins,
+        mode,
+        size,
+    );
 }
 
 fn main() {

@@ -1,6 +1,7 @@
 -- All instances tried in turn: what is found on the record is what the definition of the reverse lookup says of the view on paper.
 use Prim.Native.Nat.{ℕ, _+_, _*_, _/_, _%_, _≤_, _<_}
 use mathlib.Core.Bool.{cond}
+use mathlib.Core.List.{List}
 use mathlib.Core.Path.{_≡_, sym, ap, _∙_}
 use native.Mathlib.Omega.{arith}
 use lib.IntN.{pos}
@@ -15,9 +16,11 @@ use Rattle.view.specs.declared.Offset.{Offset}
 use Rattle.view.specs.declared.Owner.{Owner}
 use Rattle.view.specs.declared.Owner.the-variants.{Pair, Nobody}
 use Rattle.view.specs.declared.View.{View}
+use Rattle.view.specs.declared.Numbers.{Numbers}
 use Rattle.view.specs.Types.{paper, entries, widthAt}
 use Rattle.view.specs.Rules.{Kept}
 use Rattle.view.specs.Places.{packedBefore}
+use Rattle.view.specs.Numbers.{viewWith}
 use Rattle.view.specs.Owners.{entryStart, offsetIn, indexIn, hits, hitEntry, ownerOf}
 use Rattle.view.proofs.Paper.{paper-entries, paper-file-entries, paper-width, paper-displacement, paper-file-width, paper-file-displacement, paper-file-extent, paper-start, paper-instances, paper-origin}
 use Rattle.view.proofs.Held.{start-small, some-entry, few-entries, record-entry, record-few, record-extent, record-origin}
@@ -28,27 +31,33 @@ use Rattle.reverse.proofs.Firsts.{first-runs, first-same, first-searche
 unfoldable pub ownerFrom : View → ℕ → ℕ → Owner
 ownerFrom v b g = instanceOwner (v .etype .entries) (v .etype .widths) (v .etype .displacements) (v .filetype .extent) (v .filetype .instances) g (v .displacement + nth (v .filetype .origins) g) b
 
+-- ---- what the loop over instances needs
+
+module _ (v : Numbers) (ws ds ps : List ℕ) (k : Kept (paper (viewWith v ws ds ps))) (g : ℕ) (l : g < v .filetype .instances) where
+  few : v .filetype .instances ≤ 64
+  few = record-few (viewWith v ws ds ps) k
+
+  begins : v .displacement + nth ps g < 1099512676352
+  begins = omega (arith, record-origin (viewWith v ws ds ps) k g l, start-small (viewWith v ws ds ps) k)
+
+  pub origin-held : g < 64
+  origin-held = omega (arith, few)
+
+  pub origin-scaled : Fits w64 (g * 8)
+  origin-scaled = record { fits = omega (arith, few) }
+
+  pub begin-fits : Fits w64 (v .displacement + getD ps g 0)
+  begin-fits = record { fits = omega (arith, begins) }
+
+  pub instance-kept : InstanceKept (v .etype .entries) ws ds (v .filetype .extent) (v .filetype .instances) g (v .displacement + getD ps g 0)
+  instance-kept = record {
+    tile = record { extent = record-extent (viewWith v ws ds ps) k; instance = l; few = few };
+    begins = omega (arith, begins);
+    entries-few = few-entries (viewWith v ws ds ps) k;
+    ends = record-entry (viewWith v ws ds ps) k;
+  }
+
 module _ (v : View) (k : Kept (paper v)) where
-  -- ---- what the loop over instances needs
-
-  module _ (g : ℕ) (l : g < v .filetype .instances) where
-    pub origin-held : g < 64
-    origin-held = omega (arith, (record-few v k))
-
-    pub origin-scaled : Fits w64 (g * 8)
-    origin-scaled = record { fits = omega (arith, (record-few v k)) }
-
-    pub begin-fits : Fits w64 (v .displacement + getD (v .filetype .origins) g 0)
-    begin-fits = record { fits = omega (arith, record-origin v k g l, start-small v k) }
-
-    pub instance-kept : InstanceKept (v .etype .entries) (v .etype .widths) (v .etype .displacements) (v .filetype .extent) (v .filetype .instances) g (v .displacement + getD (v .filetype .origins) g 0)
-    instance-kept = record {
-      tile = record { extent = record-extent v k; instance = l; few = record-few v k };
-      begins = omega (arith, record-origin v k g l, start-small v k);
-      entries-few = few-entries v k;
-      ends = record-entry v k;
-    }
-
   -- ---- the answers of the entries
 
   -- entry i of the filetype, on paper

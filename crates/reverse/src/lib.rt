@@ -5,10 +5,13 @@ ghost use Prim.Native.Nat.{_+_, _<_};
 ghost use Rattle.view.specs.Types.{paper};
 ghost use Rattle.view.specs.Rules.{Kept};
 ghost use Rattle.view.specs.Owners.{ownerOf};
+ghost use Rattle.view.specs.Numbers.{viewWith};
 ghost use Rattle.reverse.specs.Parts.{entryOwner, instanceOwner, InstanceIn, InstanceKept};
 use view::BytePos;
+use view::Numbers;
 use view::Owner;
 use view::PerEntry;
+use view::PerInstance;
 use view::View;
 
 // The pair of byte `b` if it lies, in some tile, in an entry of instance `g`, or none.
@@ -78,20 +81,25 @@ fn owner_in_instance<'a>(
 }
 
 // The pair that file byte `b` belongs to, or none: each entry of the filetype is tried in turn. For our own crates.
-pub fn owner_of(v: View, b: BytePos) -> Owner
-    requires { ⌜ Kept (paper v) ⌝ }
-    ensures { λ r. ⌜ r ≡ ownerOf (paper v) (b .0) ⌝ }
+pub fn owner_of<'a>(
+    v: Numbers,
+    widths: &'a PerEntry,
+    displacements: &'a PerEntry,
+    origins: &'a PerInstance,
+    b: BytePos,
+) -> Owner
+    requires { ⌜ Kept (paper (viewWith v (now widths) (now displacements) (now origins))) ⌝ }
+    ensures { λ r. ⌜ r ≡ ownerOf (paper (viewWith v (now (widths .entry)) (now (displacements .entry)) (now (origins .entry)))) (b .0) ⌝ }
 {
-    let filetype = v.filetype;
     let mut g = 0;
-    while g < filetype.instances {
-        let begin = v.displacement + filetype.origins[g as usize];
+    while g < v.filetype.instances {
+        let begin = v.displacement + origins[g as usize];
         let owner = owner_in_instance(
             v.etype.entries,
-            &v.etype.widths,
-            &v.etype.displacements,
-            filetype.extent,
-            filetype.instances,
+            widths,
+            displacements,
+            v.filetype.extent,
+            v.filetype.instances,
             g,
             BytePos(begin),
             b,

@@ -5,3 +5,4 @@ pub mod Places
 pub mod Owners
 pub mod End
 pub mod Same
+pub mod Numbers

@@ -4,6 +4,7 @@ ghost use mathlib.Core.Path.{_≡_};
 ghost use Prim.Native.Nat.{_<_};
 ghost use lib.IntN.{pos};
 ghost use Rattle.view.specs.Types.{defaultView, whole};
+ghost use Rattle.view.specs.Numbers.{numbersOf};
 
 // An etype offset: a count of etypes from the beginning of the view. Offsets come in signed.
 pub struct Offset(pub i64);
@@ -11,7 +12,7 @@ pub struct Offset(pub i64);
 // A byte position in the file.
 pub struct BytePos(pub u64);
 
-// A number for each entry of an etype, and one for each instance in a filetype. Inner functions borrow these lists, so that no call copies them.
+// A number for each entry of an etype, and one for each instance in a filetype.
 pub type PerEntry = [u64; View::MAX_ETYPE_ENTRIES as usize];
 
 pub type PerInstance = [u64; View::MAX_INSTANCES as usize];
@@ -35,6 +36,23 @@ pub struct View {
     pub displacement: u64,
     pub etype: Etype,
     pub filetype: Filetype,
+}
+
+// The numbers of a view, without its three lists. A function that needs a view takes these by value and borrows the lists that it needs, so that no call copies a list.
+pub struct Numbers {
+    pub displacement: u64,
+    pub etype: EtypeNumbers,
+    pub filetype: FiletypeNumbers,
+}
+
+pub struct EtypeNumbers {
+    pub entries: u64,
+    pub extent: u64,
+}
+
+pub struct FiletypeNumbers {
+    pub instances: u64,
+    pub extent: u64,
 }
 
 // What the reverse lookup finds at a file byte: the pair of offset and index in the packed data, or none.
@@ -108,6 +126,23 @@ impl View {
                 instances: 1,
                 origins: [0u64; View::MAX_INSTANCES as usize],
                 extent: 1,
+            },
+        }
+    }
+
+    // The view's numbers. For our own crates.
+    pub fn numbers(self) -> Numbers
+        ensures { λ r. ⌜ r ≡ numbersOf self ⌝ }
+    {
+        Numbers {
+            displacement: self.displacement,
+            etype: EtypeNumbers {
+                entries: self.etype.entries,
+                extent: self.etype.extent,
+            },
+            filetype: FiletypeNumbers {
+                instances: self.filetype.instances,
+                extent: self.filetype.extent,
             },
         }
     }

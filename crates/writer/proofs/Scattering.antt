@@ -16,10 +16,11 @@ use Rattle.laws.proofs.Quotients.{times-more, run-below}
 use Rattle.view.specs.declared.View.{View}
 use Rattle.view.specs.Types.{paper, whole}
 use Rattle.view.specs.Places.{place, byteOf, dataSize}
+use Rattle.view.specs.Numbers.{numbersOf}
 use Rattle.view.proofs.Held.{record-allowed}
 use Rattle.rules.specs.Parts.{reachOf}
 use Rattle.locate.specs.declared.Spot.{Spot}
-use Rattle.locate.specs.Spots.{SpotAt, nextSpot}
+use Rattle.locate.specs.Spots.{spotAt, nextSpot}
 use Rattle.runs.specs.Parts.{onward, always}
 use Rattle.copier.specs.Parts.{sizeOf, placeIn, Lies}
 use Rattle.mover.specs.Moves.{fileByte, writeEnd, newSize, written}
@@ -46,7 +47,7 @@ module _ (v : View) (buf file₀ : List ℕ) (o : ℤ) (c : ℕ) (h : Storable v
   is : first ≡ whole o
   is = first-is v o c (h .ranged) some first read
 
-  pub scattering-none : S ≡ sizeOf (v .etype .entries) (v .etype .widths) → (s : Spot) → SpotAt (paper v) (whole o) s → length buf < 2 ^ 64 → Scattering v buf first c S file₀ file₀ first s
+  pub scattering-none : S ≡ sizeOf (v .etype .entries) (v .etype .widths) → (s : Spot) → s ≡ spotAt (numbersOf v) (whole o) → length buf < 2 ^ 64 → Scattering v buf first c S file₀ file₀ first s
   scattering-none sized s at held =
       let e : first - first ≡ 0 = omega arith in
       record {

@@ -6,35 +6,47 @@ ghost use lib.ListN.{length};
 ghost use Rattle.laws.specs.Lists.{nth, store};
 ghost use Rattle.view.specs.Types.{paper, whole};
 ghost use Rattle.view.specs.Places.{dataSize};
+ghost use Rattle.view.specs.Numbers.{viewWith};
 ghost use Rattle.mover.specs.Moves.{fileByte};
 ghost use Rattle.writer.specs.Parts.{Storable, Writable, WriteDone};
+use view::Numbers;
 use view::Offset;
-use view::View;
+use view::PerEntry;
+use view::PerInstance;
 
 // What the gap between the old size and the new one gets.
 const GAP_FILL: u8 = 0;
 
 // Stores `count` etypes from the buffer at `o`, each of the data bytes at its place.
 // It divides once, for the first offset, and then steps from instance to instance and from tile to tile.
-pub fn scatter(v: View, file: &mut [u8], o: Offset, count: u64, buf: &[u8])
-    requires { ⌜ Storable v (length (now file)) (o .0) count (length (now buf)) ⌝ }
-    ensures { λ r. ⌜ now (file .exit) ≡ store (fileByte (paper v) (whole (o .0))) (nth (now (buf .entry))) (count * dataSize (paper v)) (now (file .entry)) ⌝ }
+pub fn scatter<'a>(
+    v: Numbers,
+    widths: &'a PerEntry,
+    displacements: &'a PerEntry,
+    origins: &'a PerInstance,
+    file: &mut [u8],
+    o: Offset,
+    count: u64,
+    buf: &[u8],
+)
+    requires { ⌜ Storable (viewWith v (now widths) (now displacements) (now origins)) (length (now file)) (o .0) count (length (now buf)) ⌝ }
+    ensures { λ r. ⌜ now (file .exit) ≡ store (fileByte (paper (viewWith v (now (widths .entry)) (now (displacements .entry)) (now (origins .entry)))) (whole (o .0))) (nth (now (buf .entry))) (count * dataSize (paper (viewWith v (now (widths .entry)) (now (displacements .entry)) (now (origins .entry))))) (now (file .entry)) ⌝ }
 {
     if count == 0 {
         return;
     }
-    let packed = copier::data_size(v.etype.entries, &v.etype.widths);
+    let packed = copier::data_size(v.etype.entries, widths);
     let first = view::natural(o.0);
     let last = first + count;
     let mut spot = locate::spot_of(v, o);
     let mut x = first;
     while x < last {
-        let place = locate::begin_at(&v.filetype.origins, spot);
+        let place = locate::begin_at(origins, spot);
         let from = ((x - first) * packed) as usize;
         copier::copy_in(
             v.etype.entries,
-            &v.etype.widths,
-            &v.etype.displacements,
+            widths,
+            displacements,
             &buf[from..],
             file,
             place,
@@ -45,8 +57,11 @@ pub fn scatter(v: View, file: &mut [u8], o: Offset, count: u64, buf: &[u8])
 }
 
 // Writes `count` etypes at `o` into a file of this size, where the write ends at `end`: the gap is filled first, whole, then the data are stored. Answers the new size.
-pub fn write(
-    v: View,
+pub fn write<'a>(
+    v: Numbers,
+    widths: &'a PerEntry,
+    displacements: &'a PerEntry,
+    origins: &'a PerInstance,
     file: &mut [u8],
     size: u64,
     o: Offset,
@@ -54,11 +69,11 @@ pub fn write(
     end: u64,
     buf: &[u8],
 ) -> u64
-    requires { ⌜ Writable v (length (now file)) size (o .0) count end (length (now buf)) ⌝ }
-    ensures { λ r. ⌜ WriteDone v (now (file .entry)) (now (file .exit)) size (o .0) count (now (buf .entry)) r ⌝ }
+    requires { ⌜ Writable (viewWith v (now widths) (now displacements) (now origins)) (length (now file)) size (o .0) count end (length (now buf)) ⌝ }
+    ensures { λ r. ⌜ WriteDone (viewWith v (now (widths .entry)) (now (displacements .entry)) (now (origins .entry))) (now (file .entry)) (now (file .exit)) size (o .0) count (now (buf .entry)) r ⌝ }
 {
     let grown = laws::larger(size, end);
     runs::fill(file, size as usize, grown as usize, GAP_FILL);
-    scatter(v, file, o, count, buf);
+    scatter(v, widths, displacements, origins, file, o, count, buf);
     grown
 }

@@ -1,17 +1,18 @@
 -- `write_end` takes the greatest end of the last offsets, one for each instance at most; together they end where the write does. Assumes nothing.
 use Prim.Native.Nat.{_-_}
 use borrow.Author.Needs.{needs}
+use Rattle.view.specs.Numbers.{viewWith}
 use Rattle.mover.proofs.Etypes.{entries-kept}
-use Rattle.mover.proofs.Walking.{walk-fits, walk-kept, walk-held, walk-step}
+use Rattle.mover.proofs.Walking.{walk-fits, walk-held, lent-tiled, lent-kept, lent-step}
 use Rattle.ending.proofs.Ending.{Ending, end-none, tail-few, from-fits, tail-fits, from-signed, from-allowed, ending-none, ending-fits, ending-more, ending-end}
 use Rattle.ending.proofs.write_end.Statement.{statement}
 use Rattle.ending.proofs.write_end.Tie as tie
 
 abbrev Inv-loop : tie.InvT-loop
-Inv-loop count v reach tail skipped from last spot₀ end₀ x₀ spot end x = Ending v from last reach x spot end
+Inv-loop v widths displacements origins count reach tail skipped from last spot₀ end₀ x₀ spot end x = Ending (viewWith v widths displacements origins) from last reach x spot end
 
 abbrev μ-loop : tie.MeasureT-loop
-μ-loop count v reach tail skipped from last spot₀ end₀ x₀ spot end x = last - x
+μ-loop v widths displacements origins count reach tail skipped from last spot₀ end₀ x₀ spot end x = last - x
 
 returns : tie.Need-returns Inv-loop μ-loop
 returns c = search end-none
@@ -32,19 +33,19 @@ to-offset-requires : tie.Need-to-offset-requires Inv-loop μ-loop
 to-offset-requires c κs = search from-signed
 
 spot-of-requires : tie.Need-spot-of-requires Inv-loop μ-loop
-spot-of-requires c κs = search (needs, from-allowed)
+spot-of-requires c κs = search (needs, lent-tiled, from-allowed)
 
 loop-holds : tie.Need-loop-holds Inv-loop μ-loop
 loop-holds c = search ending-none
 
 begin-at-requires : tie.Need-begin-at-requires Inv-loop μ-loop
-begin-at-requires c κs = search walk-kept
+begin-at-requires c κs = search lent-kept
 
 add-one : tie.Need-add-one Inv-loop μ-loop
-add-one c = ending-fits _ _ _ _ _ _ _ (c .before .before .before .before .before .loop .inv) (c .before .before .before .before .loop-test .taken) _ (c .before .begin-at .ensures)
+add-one c = search ending-fits
 
 next-spot-requires : tie.Need-next-spot-requires Inv-loop μ-loop
-next-spot-requires c κs = search (walk-held, walk-step)
+next-spot-requires c κs = search (walk-held, lent-step)
 
 add-x : tie.Need-add-x Inv-loop μ-loop
 add-x c = search walk-fits

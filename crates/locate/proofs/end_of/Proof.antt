@@ -2,16 +2,16 @@
 use Prim.Native.Nat.{_-_}
 use borrow.Author.Needs.{needs}
 use Rattle.laws.proofs.Sums.{Highest, highest-none, highest-more}
-use Rattle.view.proofs.Held.{record-few, record-extent}
-use Rattle.locate.proofs.Placing.{endOn, end-on, origin-below, origin-scaled, start-fits, end-signed, end-found}
+use Rattle.locate.specs.Spots.{endAt}
+use Rattle.locate.proofs.Placing.{end-at, origin-below, origin-scaled, start-fits, end-signed, end-found}
 use Rattle.locate.proofs.end_of.Statement.{statement}
 use Rattle.locate.proofs.end_of.Tie as tie
 
 abbrev Inv-loop : tie.InvT-loop
-Inv-loop v size instances extent origins end₀ i₀ end i = Highest (endOn v size) i instances end
+Inv-loop v origins size instances extent end₀ i₀ end i = Highest (endAt v origins size) i instances end
 
 abbrev μ-loop : tie.MeasureT-loop
-μ-loop v size instances extent origins end₀ i₀ end i = instances - i
+μ-loop v origins size instances extent end₀ i₀ end i = instances - i
 
 loop-holds : tie.Need-loop-holds Inv-loop μ-loop
 loop-holds c = search highest-none
@@ -19,17 +19,17 @@ loop-holds c = search highest-none
 mul-start : tie.Need-mul-start Inv-loop μ-loop
 mul-start c = search (origin-scaled, origin-below)
 
-array-read-start : tie.Need-array-read-start Inv-loop μ-loop
-array-read-start c = search origin-below
+element-copy-out-start : tie.Need-element-copy-out-start Inv-loop μ-loop
+element-copy-out-start c = search origin-below
 
 add-start : tie.Need-add-start Inv-loop μ-loop
 add-start c = search start-fits
 
 end-from-requires : tie.Need-end-from-requires Inv-loop μ-loop
-end-from-requires c κs = search (needs, record-few, record-extent)
+end-from-requires c κs = search needs
 
 loop-again : tie.Need-loop-again Inv-loop μ-loop
-loop-again c = search (highest-more, end-on)
+loop-again c = search (highest-more, end-at)
 
 to-offset-requires : tie.Need-to-offset-requires Inv-loop μ-loop
 to-offset-requires c κs = search end-signed
@@ -45,7 +45,7 @@ end-of-spec =
     μ-loop
     loop-holds
     mul-start
-    array-read-start
+    element-copy-out-start
     add-start
     end-from-requires
     (λ c κs. tt)

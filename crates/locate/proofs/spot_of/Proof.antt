@@ -1,12 +1,11 @@
 -- `spot_of` divides the offset by the number of instances. Assumes nothing.
-use Rattle.view.proofs.Held.{record-some}
 use Rattle.locate.proofs.Placing.{step-fits, tile-fits, spot-made}
 use borrow.Author.Needs.{needs}
 use Rattle.locate.proofs.spot_of.Statement.{statement}
 use Rattle.locate.proofs.spot_of.Tie as tie
 
 div-tile : tie.Need-div-tile
-div-tile c = search record-some
+div-tile c = search needs
 
 mul-step : tie.Need-mul-step
 mul-step c = search step-fits
@@ -15,7 +14,7 @@ add-begin : tie.Need-add-begin
 add-begin c = search tile-fits
 
 rem-instance : tie.Need-rem-instance
-rem-instance c = search record-some
+rem-instance c = search needs
 
 returns : tie.Need-returns
 returns c = search spot-made

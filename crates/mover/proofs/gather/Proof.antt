@@ -1,18 +1,19 @@
 -- `gather` copies each etype that lies in the file and stops at the first that does not. Assumes nothing.
 use Prim.Native.Nat.{_-_}
 use borrow.Author.Needs.{needs}
+use Rattle.view.specs.Numbers.{viewWith}
 use Rattle.copier.proofs.Copying.{widths-kept}
 use Rattle.mover.proofs.Etypes.{entries-kept}
 use Rattle.mover.proofs.Gathering.{Gathering, move-none, gathering-none, gather-all, gather-end-fits, gather-stop, from-fits, from-inside, gather-lies, gather-more}
-use Rattle.mover.proofs.Walking.{walk-fits, walk-kept, walk-held, walk-step, move-offset, last-fits}
+use Rattle.mover.proofs.Walking.{walk-fits, walk-held, move-offset, last-fits, lent-tiled, lent-kept, lent-step}
 use Rattle.mover.proofs.gather.Statement.{statement}
 use Rattle.mover.proofs.gather.Tie as tie
 
 abbrev Inv-loop : tie.InvT-loop
-Inv-loop file size count buf₀ v packed reach first last spot₀ x₀ buf spot x = Gathering v file size first count packed reach buf₀ buf x spot
+Inv-loop v widths displacements origins file size count buf₀ packed reach first last spot₀ x₀ buf spot x = Gathering (viewWith v widths displacements origins) file size first count packed reach buf₀ buf x spot
 
 abbrev μ-loop : tie.MeasureT-loop
-μ-loop file size count buf₀ v packed reach first last spot₀ x₀ buf spot x = last - x
+μ-loop v widths displacements origins file size count buf₀ packed reach first last spot₀ x₀ buf spot x = last - x
 
 returns : tie.Need-returns Inv-loop μ-loop
 returns c = search move-none
@@ -27,13 +28,13 @@ add-last : tie.Need-add-last Inv-loop μ-loop
 add-last c = search last-fits
 
 spot-of-requires : tie.Need-spot-of-requires Inv-loop μ-loop
-spot-of-requires c κs = search (needs, move-offset)
+spot-of-requires c κs = search (needs, lent-tiled, move-offset)
 
 loop-holds : tie.Need-loop-holds Inv-loop μ-loop
 loop-holds c = search (needs, gathering-none)
 
 begin-at-requires : tie.Need-begin-at-requires Inv-loop μ-loop
-begin-at-requires c κs = search walk-kept
+begin-at-requires c κs = search lent-kept
 
 add-end : tie.Need-add-end Inv-loop μ-loop
 add-end c = search gather-end-fits
@@ -42,23 +43,19 @@ returns-2 : tie.Need-returns-2 Inv-loop μ-loop
 returns-2 c = search gather-stop
 
 mul-from : tie.Need-mul-from Inv-loop μ-loop
-mul-from c =
-    from-fits _ _ _ _ _ _ _ _ _ _ _ (c .before .before .before .before .before .before .loop .inv) (c .before .before .before .before .before .loop-test .taken)
+mul-from c = search from-fits
 
 sub-copy-out : tie.Need-sub-copy-out Inv-loop μ-loop
-sub-copy-out c =
-    from-inside _ _ _ _ _ _ _ _ _ _ _ (c .before .before .before .before .before .before .before .before .before .loop .inv) (c .before .before .before .before .before .before .before .before .loop-test .taken)
+sub-copy-out c = search from-inside
 
 part-copy-out-start : tie.Need-part-copy-out-start Inv-loop μ-loop
-part-copy-out-start c =
-    from-inside _ _ _ _ _ _ _ _ _ _ _ (c .before .before .before .before .before .before .before .before .before .loop .inv) (c .before .before .before .before .before .before .before .before .loop-test .taken)
+part-copy-out-start c = search from-inside
 
 copy-out-requires : tie.Need-copy-out-requires Inv-loop μ-loop
-copy-out-requires c κs =
-    gather-lies _ _ _ _ _ _ _ _ _ _ _ (c .before .before .before .before .before .before .before .before .before .before .loop .inv) (c .before .before .before .before .before .before .before .before .before .loop-test .taken) _ (c .before .before .before .before .before .before .begin-at .ensures) (c .before .before .before .before .if2 .left)
+copy-out-requires c κs = gather-lies _ _ _ _ _ _ _ _ _ _ _ (c .before .before .before .before .before .loop .inv) (c .before .before .before .before .loop-test .taken) _ (c .before .before .before .begin-at .ensures) (c .before .if2 .left)
 
 next-spot-requires : tie.Need-next-spot-requires Inv-loop μ-loop
-next-spot-requires c κs = search (walk-held, walk-step)
+next-spot-requires c κs = search (walk-held, lent-step)
 
 add-x : tie.Need-add-x Inv-loop μ-loop
 add-x c = search walk-fits

@@ -1,16 +1,15 @@
 -- `show_places` calls nothing that its tests do not allow, and ends. Assumes nothing but what libc's functions say.
 use Prim.Native.Nat.{_-_, _≤_}
-use Rattle.view.specs.Types.{paper}
-use Rattle.view.specs.Rules.{Kept}
+use Rattle.locate.specs.Spots.{Tiled, Begun}
 use Rattle.preview.proofs.Showing.{showing}
 use Rattle.preview.proofs.show_places.Statement.{statement}
 use Rattle.preview.proofs.show_places.Tie as tie
 
 abbrev Inv-loop : tie.InvT-loop
-Inv-loop v mode size o₀ t9 t10 t11 t12 o = (o ≤ 5) × Kept (paper v)
+Inv-loop v widths displacements origins mode size o₀ t1 t2 t3 t4 o = (o ≤ 5) × Tiled v × Begun v origins
 
 abbrev μ-loop : tie.MeasureT-loop
-μ-loop v mode size o₀ t9 t10 t11 t12 o = 5 - o
+μ-loop v widths displacements origins mode size o₀ t1 t2 t3 t4 o = 5 - o
 
 keeps-requires : tie.Need-keeps-requires Inv-loop μ-loop
 keeps-requires c κs = search showing

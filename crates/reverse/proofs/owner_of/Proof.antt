@@ -2,16 +2,17 @@
 use Prim.Native.Nat.{_-_}
 use borrow.Author.Needs.{needs}
 use native.Mathlib.Omega.{arith}
+use Rattle.view.specs.Numbers.{viewWith}
 use Rattle.reverse.proofs.Firsts.{Missed, missed-none}
 use Rattle.reverse.proofs.Whole.{ownerFrom, lookup-more, lookup-stop, origin-held, origin-scaled, begin-fits, instance-kept, lookup-end}
 use Rattle.reverse.proofs.owner_of.Statement.{statement}
 use Rattle.reverse.proofs.owner_of.Tie as tie
 
 abbrev Inv-loop : tie.InvT-loop
-Inv-loop b v filetype g₀ g = Missed (ownerFrom v (b .0)) g (filetype .instances)
+Inv-loop v widths displacements origins b g₀ g = Missed (ownerFrom (viewWith v widths displacements origins) (b .0)) g (v .filetype .instances)
 
 abbrev μ-loop : tie.MeasureT-loop
-μ-loop b v filetype g₀ g = filetype .instances - g
+μ-loop v widths displacements origins b g₀ g = v .filetype .instances - g
 
 loop-holds : tie.Need-loop-holds Inv-loop μ-loop
 loop-holds c = search missed-none
@@ -32,7 +33,7 @@ returns : tie.Need-returns Inv-loop μ-loop
 returns c = search lookup-stop
 
 loop-again : tie.Need-loop-again Inv-loop μ-loop
-loop-again c = lookup-more _ (search needs) _ _ (c .before .before .before .before .before .before .before .before .loop .inv) (c .before .before .before .before .before .before .before .loop-test .taken) _ (c .before .before .owner-in-instance .ensures) (search needs)
+loop-again c = search lookup-more
 
 returns-2 : tie.Need-returns-2 Inv-loop μ-loop
 returns-2 c = search lookup-end

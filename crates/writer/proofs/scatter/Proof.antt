@@ -1,18 +1,19 @@
 -- `scatter` stores each etype's data at its place; the etype lies in the file, as the write's end does. Assumes nothing.
 use Prim.Native.Nat.{_-_}
 use borrow.Author.Needs.{needs}
+use Rattle.view.specs.Numbers.{viewWith}
 use Rattle.copier.proofs.Copying.{widths-kept}
 use Rattle.mover.proofs.Etypes.{entries-kept}
-use Rattle.mover.proofs.Walking.{walk-fits, walk-kept, walk-held, walk-step, move-offset, last-fits}
+use Rattle.mover.proofs.Walking.{walk-fits, walk-held, move-offset, last-fits, lent-tiled, lent-kept, lent-step}
 use Rattle.writer.proofs.Scattering.{Scattering, scatter-none, scattering-none, scatter-all, from-fits, from-inside, scatter-lies, scatter-more}
 use Rattle.writer.proofs.scatter.Statement.{statement}
 use Rattle.writer.proofs.scatter.Tie as tie
 
 abbrev Inv-loop : tie.InvT-loop
-Inv-loop file₀ count buf v packed first last spot₀ x₀ file spot x = Scattering v buf first count packed file₀ file x spot
+Inv-loop v widths displacements origins file₀ count buf packed first last spot₀ x₀ file spot x = Scattering (viewWith v widths displacements origins) buf first count packed file₀ file x spot
 
 abbrev μ-loop : tie.MeasureT-loop
-μ-loop file₀ count buf v packed first last spot₀ x₀ file spot x = last - x
+μ-loop v widths displacements origins file₀ count buf packed first last spot₀ x₀ file spot x = last - x
 
 returns : tie.Need-returns Inv-loop μ-loop
 returns c = search scatter-none
@@ -24,13 +25,13 @@ add-last : tie.Need-add-last Inv-loop μ-loop
 add-last c = search (needs, last-fits)
 
 spot-of-requires : tie.Need-spot-of-requires Inv-loop μ-loop
-spot-of-requires c κs = search (needs, move-offset)
+spot-of-requires c κs = search (needs, lent-tiled, move-offset)
 
 loop-holds : tie.Need-loop-holds Inv-loop μ-loop
 loop-holds c = search (needs, scattering-none)
 
 begin-at-requires : tie.Need-begin-at-requires Inv-loop μ-loop
-begin-at-requires c κs = search (needs, walk-kept)
+begin-at-requires c κs = search (needs, lent-kept)
 
 mul-from : tie.Need-mul-from Inv-loop μ-loop
 mul-from c = search from-fits
@@ -42,10 +43,10 @@ part-copy-in-start : tie.Need-part-copy-in-start Inv-loop μ-loop
 part-copy-in-start c = search from-inside
 
 copy-in-requires : tie.Need-copy-in-requires Inv-loop μ-loop
-copy-in-requires c κs = search scatter-lies
+copy-in-requires c κs = scatter-lies _ _ _ _ _ _ _ _ _ (c .before .before .before .before .loop .inv) (c .before .before .before .loop-test .taken) _ (c .before .before .begin-at .ensures)
 
 next-spot-requires : tie.Need-next-spot-requires Inv-loop μ-loop
-next-spot-requires c κs = search (needs, walk-held, walk-step)
+next-spot-requires c κs = search (needs, walk-held, lent-step)
 
 add-x : tie.Need-add-x Inv-loop μ-loop
 add-x c = search (needs, walk-fits)

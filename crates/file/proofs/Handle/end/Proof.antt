@@ -1,22 +1,30 @@
 -- `end` follows check 1; what it leaves is what `end_of` requires. Assumes nothing.
-use Rattle.file.proofs.Checking.{judged-file-view, judged-size}
+use Rattle.file.proofs.Lending.{file-tiled, file-begun, file-size}
 use Rattle.file.proofs.Answering.{end-handle, end-done}
 use Rattle.file.proofs.Handle.end.Statement.{statement}
 use Rattle.file.proofs.Handle.end.Tie as tie
 
 returns : tie.Need-returns
-returns c = search end-handle
+returns c =
+    let kept = c .before in
+    let numbered = kept .before .before .before .before .before in
+    end-handle _ _ _ _ (numbered .numbers .ensures) _ (kept .file-kept .ensures) (c .if1 .taken)
 
 end-of-requires : tie.Need-end-of-requires
-end-of-requires c κs = (search judged-file-view, search judged-size)
+end-of-requires c κs = (search file-tiled, search file-begun, search file-size)
 
 returns-2 : tie.Need-returns-2
-returns-2 c = search end-done
+returns-2 c =
+    let passed = c .before .before .before in
+    let kept = passed .before in
+    let numbered = kept .before .before .before .before .before in
+    end-done _ _ _ _ (numbered .numbers .ensures) _ (kept .file-kept .ensures) (passed .if1 .left) _ (c .end-of .ensures)
 
 pub end-spec : {M : Type 1} → statement M
 end-spec =
     tie.close
     (tie.spec
+    (λ c κs. tt)
     (λ c κs. tt)
     returns
     end-of-requires

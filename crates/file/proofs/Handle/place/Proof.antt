@@ -1,6 +1,6 @@
 -- `place` follows checks 1 and 12; what they leave is what `place_of` requires. Assumes nothing.
 use Rattle.laws.proofs.Booleans.{unflag-true}
-use Rattle.file.proofs.Checking.{judged-view}
+use Rattle.file.proofs.Lending.{handle-tiled, handle-begun}
 use Rattle.file.proofs.Answering.{place-handle, place-range, place-done}
 use Rattle.file.proofs.Handle.place.Statement.{statement}
 use Rattle.file.proofs.Handle.place.Tie as tie
@@ -9,18 +9,28 @@ returns : tie.Need-returns
 returns c = search place-handle
 
 returns-2 : tie.Need-returns-2
-returns-2 c = search place-range
+returns-2 c =
+    let passed = c .before .before in
+    let kept = passed .before in
+    let numbered = kept .before .before .before .before .before in
+    place-range _ _ _ (numbered .numbers .ensures) _ (kept .handle-kept .ensures) (passed .if1 .left) _ (c .before .offset-allowed .ensures) (c .if2 .taken)
 
 place-of-requires : tie.Need-place-of-requires
-place-of-requires c κs = (search judged-view, unflag-true _ _ (c .before .before .offset-allowed .ensures) (c .before .if2 .left))
+place-of-requires c κs = (search handle-tiled, search handle-begun, unflag-true _ _ (c .before .before .before .offset-allowed .ensures) (c .before .before .if2 .left))
 
 returns-3 : tie.Need-returns-3
-returns-3 c = search place-done
+returns-3 c =
+    let ranged = c .before .before .before in
+    let passed = ranged .before .before in
+    let kept = passed .before in
+    let numbered = kept .before .before .before .before .before in
+    place-done _ _ _ (numbered .numbers .ensures) _ (kept .handle-kept .ensures) (passed .if1 .left) _ (ranged .before .offset-allowed .ensures) (ranged .if2 .left) _ (c .place-of .ensures)
 
 pub place-spec : {M : Type 1} → statement M
 place-spec =
     tie.close
     (tie.spec
+    (λ c κs. tt)
     (λ c κs. tt)
     returns
     (λ c κs. tt)

@@ -1,6 +1,6 @@
 -- `read` is the read at the pointer as an offset, after which the pointer is raised by the number moved. Assumes nothing.
-use Rattle.file.proofs.Readable.{next-refused, pointer-fits, next-done}
 use borrow.Author.Needs.{needs}
+use Rattle.file.proofs.Readable.{next-refused, pointer-fits, next-done}
 use Rattle.file.proofs.Handle.read.Statement.{statement}
 use Rattle.file.proofs.Handle.read.Tie as tie
 
@@ -17,6 +17,8 @@ pub read-spec : {M : Type 1} → statement M
 read-spec =
     tie.close
     (tie.spec
+    (λ c κs. tt)
+    (λ c κs. tt)
     (λ c κs. tt)
     (λ c κs. tt)
     (λ c. search needs)

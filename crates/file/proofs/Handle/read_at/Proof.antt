@@ -1,17 +1,11 @@
--- `read_at` refuses, or moves what `gather` moves. Assumes nothing.
-use Rattle.file.proofs.Readable.{at-refused, at-movable, at-done}
+-- `read_at` answers what `access::read` answers, with the handle and the file record as they came. Assumes nothing.
 use borrow.Author.Needs.{needs}
+use Rattle.file.proofs.Readable.{at-answered}
 use Rattle.file.proofs.Handle.read_at.Statement.{statement}
 use Rattle.file.proofs.Handle.read_at.Tie as tie
 
 returns : tie.Need-returns
-returns c = search at-refused
-
-gather-requires : tie.Need-gather-requires
-gather-requires c κs = search at-movable
-
-returns-2 : tie.Need-returns-2
-returns-2 c = search at-done
+returns c = search at-answered
 
 pub read-at-spec : {M : Type 1} → statement M
 read-at-spec =
@@ -19,8 +13,5 @@ read-at-spec =
     (tie.spec
     (λ c κs. tt)
     (λ c κs. tt)
-    (λ c κs. tt)
-    returns
-    gather-requires
     (λ c. search needs)
-    returns-2)
+    returns)

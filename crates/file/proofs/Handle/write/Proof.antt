@@ -1,6 +1,6 @@
 -- `write` is the write at the pointer as an offset, after which the pointer is raised by the count. Assumes nothing.
-use Rattle.file.proofs.Writable.{next-refused, pointer-fits, next-done}
 use borrow.Author.Needs.{needs}
+use Rattle.file.proofs.Writable.{next-refused, pointer-fits, next-done}
 use Rattle.file.proofs.Handle.write.Statement.{statement}
 use Rattle.file.proofs.Handle.write.Tie as tie
 
@@ -8,7 +8,11 @@ returns : tie.Need-returns
 returns c = search next-refused
 
 add-self : tie.Need-add-self
-add-self c = search (needs, pointer-fits)
+add-self c =
+    let written = c .before .before .before .before in
+    let numbered = written .before .before .before .before .before .before in
+    let started = numbered .before .before in
+    pointer-fits _ _ _ _ _ _ _ (numbered .numbers .ensures) _ _ (started .start .ensures) (written .write .ensures) (c .if1 .left)
 
 returns-2 : tie.Need-returns-2
 returns-2 c = search next-done
@@ -17,6 +21,8 @@ pub write-spec : {M : Type 1} → statement M
 write-spec =
     tie.close
     (tie.spec
+    (λ c κs. tt)
+    (λ c κs. tt)
     (λ c κs. tt)
     (λ c κs. tt)
     (λ c. search needs)

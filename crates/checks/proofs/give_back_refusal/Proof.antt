@@ -1,7 +1,7 @@
--- `give_back_refusal` follows checks 1 and 13: the entry counts of the record are those of the view on paper. Assumes nothing.
-use Rattle.file.proofs.Returning.{give-handle, give-entries, give-instances, give-short, give-granted}
-use Rattle.file.proofs.Handle.give_back_refusal.Statement.{statement}
-use Rattle.file.proofs.Handle.give_back_refusal.Tie as tie
+-- `give_back_refusal` follows checks 1 and 13. Assumes nothing.
+use Rattle.checks.proofs.Handles.{give-handle, give-entries, give-instances, give-short, give-granted}
+use Rattle.checks.proofs.give_back_refusal.Statement.{statement}
+use Rattle.checks.proofs.give_back_refusal.Tie as tie
 
 returns : tie.Need-returns
 returns c = search give-handle

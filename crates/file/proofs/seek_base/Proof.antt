@@ -1,8 +1,8 @@
 -- `seek_base` is 0, the pointer or the end of file; the end fits a signed number. Assumes nothing.
 use Rattle.file.proofs.Seeking.{base-set, base-current, base-end}
 use borrow.Author.Needs.{needs}
-use Rattle.file.proofs.Handle.seek_base.Statement.{statement}
-use Rattle.file.proofs.Handle.seek_base.Tie as tie
+use Rattle.file.proofs.seek_base.Statement.{statement}
+use Rattle.file.proofs.seek_base.Tie as tie
 
 returns : tie.Need-returns
 returns c = search base-set

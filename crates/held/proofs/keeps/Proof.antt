@@ -1,12 +1,12 @@
--- `parts_keep` follows the tests on the parts, which make up the rules on the view that the parts stand for. Assumes nothing.
+-- `keeps` follows the tests on the parts, which make up the rules on the view that the parts stand for. Assumes nothing.
 use borrow.Author.Needs.{needs}
 use Rattle.laws.proofs.Booleans.{tests, unflag-true, unflag-false, also-yes, also-no}
 use borrow.Author.Tests.{le-leb, lt-leb}
 use Rattle.held.specs.Parts.{viewHeld}
 use Rattle.held.proofs.Chains.{shape-flags}
 use Rattle.held.proofs.Whole.{keeps-by, no-writing, writing}
-use Rattle.held.proofs.parts_keep.Statement.{statement}
-use Rattle.held.proofs.parts_keep.Tie as tie
+use Rattle.held.proofs.keeps.Statement.{statement}
+use Rattle.held.proofs.keeps.Tie as tie
 
 returns : tie.Need-returns
 unfolding viewHeld
@@ -37,8 +37,8 @@ returns-5 : tie.Need-returns-5
 unfolding viewHeld
 returns-5 c = keeps-by _ _ _ (also-yes _ _ _ (search le-leb) (also-yes _ _ _ (search unflag-true) (also-yes _ _ _ (search unflag-true) (search writing))))
 
-pub parts-keep-spec : {M : Type 1} → statement M
-parts-keep-spec =
+pub keeps-spec : {M : Type 1} → statement M
+keeps-spec =
     tie.close
     (tie.spec
     returns

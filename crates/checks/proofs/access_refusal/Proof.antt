@@ -1,7 +1,7 @@
 -- `access_refusal` follows check 1, and then checks 11, 12 and 13 on numbers. Assumes nothing.
-use Rattle.file.proofs.Accessing.{access-handle, access-widths, access-small, access-judged}
-use Rattle.file.proofs.Handle.access_refusal.Statement.{statement}
-use Rattle.file.proofs.Handle.access_refusal.Tie as tie
+use Rattle.checks.proofs.Accesses.{access-handle, access-widths, access-small, access-judged}
+use Rattle.checks.proofs.access_refusal.Statement.{statement}
+use Rattle.checks.proofs.access_refusal.Tie as tie
 
 returns : tie.Need-returns
 returns c = search access-handle

@@ -1,0 +1,32 @@
+-- A read: what a granted one hands to the mover, and what it answers and leaves.
+use Prim.Native.Nat.{ℕ}
+use mathlib.Core.Bool.{Bool}
+use mathlib.Core.List.{List}
+use mathlib.Core.Path.{_≡_, sym, ap, _∙_}
+use lib.IntN.{ℤ}
+use lib.ListN.{length}
+use Rattle.laws.specs.Checks.{granted}
+use Rattle.laws.proofs.Booleans.{granted-no}
+use Rattle.view.specs.declared.View.{View}
+use Rattle.view.specs.Types.{paper, whole}
+use Rattle.view.specs.Rules.{allowsReading}
+use Rattle.mover.specs.Parts.{Movable, ReadDone}
+use Rattle.checks.specs.Parts.{accessHeld}
+use Rattle.checks.proofs.Accesses.{held-movable}
+use Rattle.access.specs.declared.ReadAnswer.{ReadAnswer}
+use Rattle.access.specs.Parts.{ReadMade}
+
+module _ (mode pointer : ℕ) (v : View) (file : List ℕ) (size : ℕ) (o : ℤ) (c : ℕ) (before : List ℕ) (u : Bool) (a : u ≡ allowsReading mode) (n : ℕ) (q : n ≡ accessHeld u mode pointer v (length file) size o c (length before)) where
+  found : n ≡ accessHeld (allowsReading mode) mode pointer v (length file) size o c (length before)
+  found = q ∙ ap (λ (b : Bool). accessHeld b mode pointer v (length file) size o c (length before)) a
+
+  pub read-refused : (n ≡ 0 → ⊥) → ReadMade mode pointer v file size o c before before (record { refusal = n; count = 0 })
+  read-refused z = record { refusal = found; count = sym (granted-no n _ 0 z); buffer = sym (granted-no n _ before z) }
+
+  module _ (z : n ≡ 0) where
+    pub read-movable : Movable v (length file) size o c (length before)
+    read-movable = held-movable u mode pointer v (length file) size o c (length before) (sym q ∙ z)
+
+    pub read-made : (m : ℕ) (after : List ℕ) → ReadDone v file size o c before m after → ReadMade mode pointer v file size o c before after (record { refusal = 0; count = m })
+    unfolding granted
+    read-made m after d = record { refusal = sym z ∙ found; count = d .count; buffer = d .buffer }

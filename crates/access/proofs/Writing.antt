@@ -1,0 +1,99 @@
+-- A write: check 14 after the checks of an access, what a granted one hands to the mover, and what it answers and leaves.
+use Prim.Native.Nat.{ℕ, _≤_, _<_}
+use mathlib.Core.Bool.{Bool}
+use mathlib.Core.List.{List}
+use mathlib.Core.Path.{_≡_, refl, sym, ap, _∙_}
+use native.Mathlib.Omega.{arith}
+use borrow.Author.Tests.{leb-true, le-leb, lt-leb}
+use lib.Dec.{leb}
+use lib.IntN.{ℤ}
+use lib.ListN.{length}
+use Rattle.laws.specs.Checks.{check, granted}
+use Rattle.laws.proofs.Booleans.{check-yes, check-no, check-inv, granted-yes, granted-no}
+use Rattle.view.specs.declared.View.{View}
+use Rattle.view.specs.Types.{paper, whole}
+use Rattle.view.specs.Rules.{allowsWriting}
+use Rattle.mover.specs.Moves.{writeEnd}
+use Rattle.mover.specs.Parts.{Ranged}
+use Rattle.writer.specs.Parts.{Writable, WriteDone}
+use Rattle.checks.specs.Parts.{accessHeld}
+use Rattle.checks.proofs.Accesses.{access-movable, held-no, held-yes, held-movable}
+use Rattle.access.specs.declared.Judgement.{Judgement}
+use Rattle.access.specs.Parts.{writeHeld, Judged, WriteMade}
+
+-- ---- the checks
+
+module _ (mode pointer : ℕ) (v : View) (len size : ℕ) (o : ℤ) (c room : ℕ) where
+  -- check 14
+  last : ℕ
+  last = check (leb (writeEnd (paper v) (whole o) c) len) 14 0
+
+  -- check 14 is asked exactly if none of checks 1, 11, 12 and 13 refuses
+  refused-before : (accessHeld (allowsWriting mode) mode pointer v len size o c room ≡ 0 → ⊥) → accessHeld (allowsWriting mode) mode pointer v len size o c room ≡ writeHeld mode pointer v len size o c room
+  unfolding writeHeld last
+  refused-before z = held-no (allowsWriting mode) mode pointer v len size o c room last z
+
+  asked-last : accessHeld (allowsWriting mode) mode pointer v len size o c room ≡ 0 → writeHeld mode pointer v len size o c room ≡ last
+  unfolding writeHeld last
+  asked-last z = held-yes (allowsWriting mode) mode pointer v len size o c room z last
+
+  module _ (u : Bool) (a : u ≡ allowsWriting mode) (n : ℕ) (q : n ≡ accessHeld u mode pointer v len size o c room) where
+    found : n ≡ accessHeld (allowsWriting mode) mode pointer v len size o c room
+    found = q ∙ ap (λ (b : Bool). accessHeld b mode pointer v len size o c room) a
+
+    -- an access that is refused before check 14
+    pub judged-access : (n ≡ 0 → ⊥) → Judged mode pointer v len size o c room (record { refusal = n; end = 0 })
+    judged-access z = record { refusal = found ∙ refused-before (λ p. z (found ∙ p)); end = λ p. absurd (z p) }
+
+    module _ (z : n ≡ 0) where
+      pub judged-ranged : Ranged v o c
+      judged-ranged = held-movable u mode pointer v len size o c room (sym q ∙ z) .ranged
+
+      module _ (end : ℕ) (e : end ≡ writeEnd (paper v) (whole o) c) where
+        pub judged-past : len < end → Judged mode pointer v len size o c room (record { refusal = 14; end = 0 })
+        unfolding last
+        judged-past l = record {
+          refusal = check-no _ 14 0 14 (lt-leb (writeEnd (paper v) (whole o) c) len (rw e at l)) refl ∙ sym (asked-last (sym found ∙ z));
+          end = λ y. absurd (omega (arith, y));
+        }
+
+        pub judged-granted : end ≤ len → Judged mode pointer v len size o c room (record { refusal = 0; end = end })
+        unfolding last
+        judged-granted l = record {
+          refusal = check-yes _ 14 0 0 (le-leb (writeEnd (paper v) (whole o) c) len (rw e at l)) refl ∙ sym (asked-last (sym found ∙ z));
+          end = λ y. e;
+        }
+
+-- ---- the write
+
+module _ (mode pointer : ℕ) (v : View) (file : List ℕ) (size : ℕ) (o : ℤ) (c : ℕ) (buf : List ℕ) (j : Judgement) (e : Judged mode pointer v (length file) size o c (length buf) j) where
+  pub write-refused : (j .refusal ≡ 0 → ⊥) → WriteMade mode pointer v file file size o c buf (record { refusal = j .refusal; count = 0; size = size })
+  write-refused z = record {
+    refusal = e .refusal;
+    count = sym (granted-no (j .refusal) c 0 z);
+    size = sym (granted-no (j .refusal) _ size z);
+    bytes = sym (granted-no (j .refusal) _ file z);
+  }
+
+  module _ (z : j .refusal ≡ 0) where
+    passed : writeHeld mode pointer v (length file) size o c (length buf) ≡ 0
+    passed = sym (e .refusal) ∙ z
+
+    pub write-writable : Writable v (length file) size o c (j .end) (length buf)
+    unfolding writeHeld
+    write-writable =
+        let c1 = check-inv _ 1 _ (omega arith) passed in
+        let c11 = check-inv _ 11 _ (omega arith) (c1 .1) in
+        let c12 = check-inv _ 12 _ (omega arith) (c11 .1) in
+        let c13 = check-inv _ 13 _ (omega arith) (c12 .1) in
+        let c14 = check-inv _ 14 _ (omega arith) (c13 .1) in
+        let m = access-movable mode pointer v (length file) size o c (length buf) (c1 .0) (c12 .0) (leb-true _ _ (c13 .0)) in
+        record {
+          storable = record { ranged = m .ranged; room = m .room; ends = leb-true _ _ (c14 .0) };
+          short = m .short;
+          ending = e .end z;
+        }
+
+    pub write-made : (grown : ℕ) (after : List ℕ) → WriteDone v file after size o c buf grown → WriteMade mode pointer v file after size o c buf (record { refusal = 0; count = c; size = grown })
+    unfolding granted
+    write-made grown after d = record { refusal = sym passed; count = refl; size = d .size; bytes = d .bytes }

@@ -1,0 +1,27 @@
+-- `judged` follows checks 1, 11, 12, 13 and 14; check 12 leaves what `write_end` requires. Assumes nothing.
+use Rattle.access.proofs.Writing.{judged-access, judged-ranged, judged-past, judged-granted}
+use Rattle.access.proofs.judged.Statement.{statement}
+use Rattle.access.proofs.judged.Tie as tie
+
+returns : tie.Need-returns
+returns c = search judged-access
+
+write-end-requires : tie.Need-write-end-requires
+write-end-requires c κs = search judged-ranged
+
+returns-2 : tie.Need-returns-2
+returns-2 c = search judged-past
+
+returns-3 : tie.Need-returns-3
+returns-3 c = search judged-granted
+
+pub judged-spec : {M : Type 1} → statement M
+judged-spec =
+    tie.close
+    (tie.spec
+    (λ c κs. tt)
+    (λ c κs. tt)
+    returns
+    write-end-requires
+    returns-2
+    returns-3)

@@ -1,0 +1,50 @@
+-- What the functions of this crate answer and leave, for a handle's mode, pointer and view. A reader need not believe these: the contracts of the calls cite file/specs/Answers.antt, and the proofs show that these make them up.
+use Prim.Native.Nat.{ℕ, _*_}
+use mathlib.Core.List.{List}
+use mathlib.Core.Path.{_≡_}
+use lib.Dec.{leb}
+use lib.IntN.{ℤ}
+use lib.ListN.{length}
+use Rattle.laws.specs.Checks.{check, granted}
+use Rattle.view.specs.declared.View.{View}
+use Rattle.view.specs.Types.{paper, whole}
+use Rattle.view.specs.Rules.{allowsReading, allowsWriting}
+use Rattle.view.specs.Places.{dataSize}
+use Rattle.ranges.specs.Ranges.{accessAllowed}
+use Rattle.mover.specs.Moves.{moved, readInto, writeEnd, newSize, written}
+use Rattle.checks.specs.Parts.{fileHeld, accessHeld}
+use Rattle.access.specs.declared.ReadAnswer.{ReadAnswer}
+use Rattle.access.specs.declared.WriteAnswer.{WriteAnswer}
+use Rattle.access.specs.declared.Judgement.{Judgement}
+
+-- 1, 11, 12 and 13 of a read
+abbrev pub readHeld : ℕ → ℕ → View → ℕ → ℕ → ℤ → ℕ → ℕ → ℕ
+readHeld mode pointer v len size o c buffer = accessHeld (allowsReading mode) mode pointer v len size o c buffer
+
+-- 1, 11, 12, 13 and 14 of a write
+unfoldable pub writeHeld : ℕ → ℕ → View → ℕ → ℕ → ℤ → ℕ → ℕ → ℕ
+writeHeld mode pointer v len size o c buffer =
+    check (fileHeld mode pointer v len size) 1
+    (check (allowsWriting mode) 11
+    (check (accessAllowed o c) 12
+    (check (leb (c * dataSize (paper v)) buffer) 13
+    (check (leb (writeEnd (paper v) (whole o) c) len) 14
+    0))))
+
+-- a read of c at o: its answer, and the buffer after it
+pub record ReadMade (mode pointer : ℕ) (v : View) (file : List ℕ) (size : ℕ) (o : ℤ) (c : ℕ) (before after : List ℕ) (a : ReadAnswer) : Type 0 where
+  pub refusal : a .refusal ≡ readHeld mode pointer v (length file) size o c (length before)
+  pub count : a .count ≡ granted (a .refusal) (moved (paper v) size (whole o) c) 0
+  pub buffer : after ≡ granted (a .refusal) (readInto (paper v) file (whole o) (a .count) before) before
+
+-- the checks of a write, and the end of one that they grant
+pub record Judged (mode pointer : ℕ) (v : View) (len size : ℕ) (o : ℤ) (c buffer : ℕ) (j : Judgement) : Type 0 where
+  pub refusal : j .refusal ≡ writeHeld mode pointer v len size o c buffer
+  pub end : j .refusal ≡ 0 → j .end ≡ writeEnd (paper v) (whole o) c
+
+-- a write of c at o: its answer, and the file's bytes after it
+pub record WriteMade (mode pointer : ℕ) (v : View) (before after : List ℕ) (old : ℕ) (o : ℤ) (c : ℕ) (buffer : List ℕ) (a : WriteAnswer) : Type 0 where
+  pub refusal : a .refusal ≡ writeHeld mode pointer v (length before) old o c (length buffer)
+  pub count : a .count ≡ granted (a .refusal) c 0
+  pub size : a .size ≡ granted (a .refusal) (newSize (paper v) old (whole o) c) old
+  pub bytes : after ≡ granted (a .refusal) (written (paper v) old (whole o) c buffer before) before
