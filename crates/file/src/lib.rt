@@ -434,7 +434,7 @@ impl Handle {
         if !kept {
             return refused(Handle::REFUSED_HANDLE, self, rec);
         }
-        let origins = &self.view.filetype.origins;
+        let origins = &self.view.filetype.origins; // lent anew, beside no other list
         let base = seek_base(self.pointer, v, origins, rec.size, whence);
         let target = ranges::target_of(base, by);
         let refusal = ranges::seek_refusal(whence, target.allowed);
