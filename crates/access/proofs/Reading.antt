@@ -8,25 +8,24 @@ use lib.ListN.{length}
 use Rattle.laws.specs.Checks.{granted}
 use Rattle.laws.proofs.Booleans.{granted-no}
 use Rattle.view.specs.declared.View.{View}
-use Rattle.view.specs.Types.{paper, whole}
 use Rattle.view.specs.Rules.{allowsReading}
 use Rattle.mover.specs.Parts.{Movable, ReadDone}
 use Rattle.checks.specs.Parts.{accessHeld}
 use Rattle.checks.proofs.Accesses.{held-movable}
 use Rattle.access.specs.declared.ReadAnswer.{ReadAnswer}
-use Rattle.access.specs.Parts.{ReadMade}
+use Rattle.access.specs.Parts.{readAs, ReadMade}
 
-module _ (mode pointer : ℕ) (v : View) (file : List ℕ) (size : ℕ) (o : ℤ) (c : ℕ) (before : List ℕ) (u : Bool) (a : u ≡ allowsReading mode) (n : ℕ) (q : n ≡ accessHeld u mode pointer v (length file) size o c (length before)) where
+module _ (mode pointer : ℕ) (v : View) (file : List ℕ) (size : ℕ) (o : ℤ) (c : ℕ) (before : List ℕ) (u : Bool) (w : u ≡ allowsReading mode) (n : ℕ) (q : n ≡ accessHeld u mode pointer v (length file) size o c (length before)) where
   found : n ≡ accessHeld (allowsReading mode) mode pointer v (length file) size o c (length before)
-  found = q ∙ ap (λ (b : Bool). accessHeld b mode pointer v (length file) size o c (length before)) a
+  found = q ∙ ap (λ (b : Bool). accessHeld b mode pointer v (length file) size o c (length before)) w
 
-  pub read-refused : (n ≡ 0 → ⊥) → ReadMade mode pointer v file size o c before before (record { refusal = n; count = 0 })
-  read-refused z = record { refusal = found; count = sym (granted-no n _ 0 z); buffer = sym (granted-no n _ before z) }
+  pub read-refused : (n ≡ 0 → ⊥) → (a : ReadAnswer) → a ≡ readAs n 0 → ReadMade mode pointer v file size o c before before a
+  read-refused z a e = rw e (record { refusal = found; count = sym (granted-no n _ 0 z); buffer = sym (granted-no n _ before z) })
 
   module _ (z : n ≡ 0) where
     pub read-movable : Movable v (length file) size o c (length before)
     read-movable = held-movable u mode pointer v (length file) size o c (length before) (sym q ∙ z)
 
-    pub read-made : (m : ℕ) (after : List ℕ) → ReadDone v file size o c before m after → ReadMade mode pointer v file size o c before after (record { refusal = 0; count = m })
+    pub read-made : (m : ℕ) (after : List ℕ) → ReadDone v file size o c before m after → (a : ReadAnswer) → a ≡ readAs 0 m → ReadMade mode pointer v file size o c before after a
     unfolding granted
-    read-made m after d = record { refusal = sym z ∙ found; count = d .count; buffer = d .buffer }
+    read-made m after d a e = rw e (record { refusal = sym z ∙ found; count = d .count; buffer = d .buffer })

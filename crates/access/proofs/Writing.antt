@@ -9,7 +9,7 @@ use lib.Dec.{leb}
 use lib.IntN.{ℤ}
 use lib.ListN.{length}
 use Rattle.laws.specs.Checks.{check, granted}
-use Rattle.laws.proofs.Booleans.{check-yes, check-no, check-inv, granted-yes, granted-no}
+use Rattle.laws.proofs.Booleans.{check-yes, check-no, check-inv, granted-no}
 use Rattle.view.specs.declared.View.{View}
 use Rattle.view.specs.Types.{paper, whole}
 use Rattle.view.specs.Rules.{allowsWriting}
@@ -19,7 +19,8 @@ use Rattle.writer.specs.Parts.{Writable, WriteDone}
 use Rattle.checks.specs.Parts.{accessHeld}
 use Rattle.checks.proofs.Accesses.{access-movable, held-no, held-yes, held-movable}
 use Rattle.access.specs.declared.Judgement.{Judgement}
-use Rattle.access.specs.Parts.{writeHeld, Judged, WriteMade}
+use Rattle.access.specs.declared.WriteAnswer.{WriteAnswer}
+use Rattle.access.specs.Parts.{writeAs, judgedAs, writeHeld, Judged, WriteMade}
 
 -- ---- the checks
 
@@ -42,38 +43,38 @@ module _ (mode pointer : ℕ) (v : View) (len size : ℕ) (o : ℤ) (c room : �
     found = q ∙ ap (λ (b : Bool). accessHeld b mode pointer v len size o c room) a
 
     -- an access that is refused before check 14
-    pub judged-access : (n ≡ 0 → ⊥) → Judged mode pointer v len size o c room (record { refusal = n; end = 0 })
-    judged-access z = record { refusal = found ∙ refused-before (λ p. z (found ∙ p)); end = λ p. absurd (z p) }
+    pub judged-access : (n ≡ 0 → ⊥) → (j : Judgement) → j ≡ judgedAs n 0 → Judged mode pointer v len size o c room j
+    judged-access z j g = rw g (record { refusal = found ∙ refused-before (λ p. z (found ∙ p)); end = λ p. absurd (z p) })
 
     module _ (z : n ≡ 0) where
       pub judged-ranged : Ranged v o c
       judged-ranged = held-movable u mode pointer v len size o c room (sym q ∙ z) .ranged
 
       module _ (end : ℕ) (e : end ≡ writeEnd (paper v) (whole o) c) where
-        pub judged-past : len < end → Judged mode pointer v len size o c room (record { refusal = 14; end = 0 })
+        pub judged-past : len < end → (j : Judgement) → j ≡ judgedAs 14 0 → Judged mode pointer v len size o c room j
         unfolding last
-        judged-past l = record {
+        judged-past l j g = rw g (record {
           refusal = check-no _ 14 0 14 (lt-leb (writeEnd (paper v) (whole o) c) len (rw e at l)) refl ∙ sym (asked-last (sym found ∙ z));
           end = λ y. absurd (omega (arith, y));
-        }
+        })
 
-        pub judged-granted : end ≤ len → Judged mode pointer v len size o c room (record { refusal = 0; end = end })
+        pub judged-granted : end ≤ len → (j : Judgement) → j ≡ judgedAs 0 end → Judged mode pointer v len size o c room j
         unfolding last
-        judged-granted l = record {
+        judged-granted l j g = rw g (record {
           refusal = check-yes _ 14 0 0 (le-leb (writeEnd (paper v) (whole o) c) len (rw e at l)) refl ∙ sym (asked-last (sym found ∙ z));
           end = λ y. e;
-        }
+        })
 
 -- ---- the write
 
 module _ (mode pointer : ℕ) (v : View) (file : List ℕ) (size : ℕ) (o : ℤ) (c : ℕ) (buf : List ℕ) (j : Judgement) (e : Judged mode pointer v (length file) size o c (length buf) j) where
-  pub write-refused : (j .refusal ≡ 0 → ⊥) → WriteMade mode pointer v file file size o c buf (record { refusal = j .refusal; count = 0; size = size })
-  write-refused z = record {
+  pub write-refused : (j .refusal ≡ 0 → ⊥) → (a : WriteAnswer) → a ≡ writeAs (j .refusal) 0 size → WriteMade mode pointer v file file size o c buf a
+  write-refused z a g = rw g (record {
     refusal = e .refusal;
     count = sym (granted-no (j .refusal) c 0 z);
     size = sym (granted-no (j .refusal) _ size z);
     bytes = sym (granted-no (j .refusal) _ file z);
-  }
+  })
 
   module _ (z : j .refusal ≡ 0) where
     passed : writeHeld mode pointer v (length file) size o c (length buf) ≡ 0
@@ -94,6 +95,6 @@ module _ (mode pointer : ℕ) (v : View) (file : List ℕ) (size : ℕ) (o : ℤ
           ending = e .end z;
         }
 
-    pub write-made : (grown : ℕ) (after : List ℕ) → WriteDone v file after size o c buf grown → WriteMade mode pointer v file after size o c buf (record { refusal = 0; count = c; size = grown })
+    pub write-made : (grown : ℕ) (after : List ℕ) → WriteDone v file after size o c buf grown → (a : WriteAnswer) → a ≡ writeAs 0 c grown → WriteMade mode pointer v file after size o c buf a
     unfolding granted
-    write-made grown after d = record { refusal = sym passed; count = refl; size = d .size; bytes = d .bytes }
+    write-made grown after d a g = rw g (record { refusal = sym passed; count = refl; size = d .size; bytes = d .bytes })

@@ -17,6 +17,16 @@ use Rattle.access.specs.declared.ReadAnswer.{ReadAnswer}
 use Rattle.access.specs.declared.WriteAnswer.{WriteAnswer}
 use Rattle.access.specs.declared.Judgement.{Judgement}
 
+-- the answers, and the judgement of a write, with these numbers
+abbrev pub readAs : ℕ → ℕ → ReadAnswer
+readAs n c = record { refusal = n; count = c }
+
+abbrev pub writeAs : ℕ → ℕ → ℕ → WriteAnswer
+writeAs n c size = record { refusal = n; count = c; size = size }
+
+abbrev pub judgedAs : ℕ → ℕ → Judgement
+judgedAs n end = record { refusal = n; end = end }
+
 -- 1, 11, 12 and 13 of a read
 abbrev pub readHeld : ℕ → ℕ → View → ℕ → ℕ → ℤ → ℕ → ℕ → ℕ
 readHeld mode pointer v len size o c buffer = accessHeld (allowsReading mode) mode pointer v len size o c buffer

@@ -1,7 +1,8 @@
 // Reading and writing at an offset: the checks of the call in their order, and then the mover.
-// A handle comes as its mode, its pointer, its view's numbers and the view's three lists, which are lent, and a file as its bytes and its size.
+// A handle comes as its mode, its pointer, its view's numbers and the view's lists, which are lent: the etype's widths (ws) and displacements (ds) and the filetype's origins (ps). A file comes as its bytes and its size.
+ghost use mathlib.Core.Path.{_≡_};
 ghost use Rattle.view.specs.Numbers.{viewWith};
-ghost use Rattle.access.specs.Parts.{ReadMade, Judged, WriteMade};
+ghost use Rattle.access.specs.Parts.{readAs, judgedAs, writeAs, ReadMade, Judged, WriteMade};
 use view::Numbers;
 use view::Offset;
 use view::PerEntry;
@@ -23,30 +24,49 @@ pub struct WriteAnswer {
     pub size: u64,
 }
 
+fn read_answer(refusal: u64, count: u64) -> ReadAnswer
+    ensures { λ r. ⌜ r ≡ readAs refusal count ⌝ }
+{
+    ReadAnswer {
+        refusal: refusal,
+        count: count,
+    }
+}
+
+fn write_answer(refusal: u64, count: u64, size: u64) -> WriteAnswer
+    ensures { λ r. ⌜ r ≡ writeAs refusal count size ⌝ }
+{
+    WriteAnswer {
+        refusal: refusal,
+        count: count,
+        size: size,
+    }
+}
+
 // Reads `count` etypes at `o` into the buffer.
 pub fn read<'a>(
     mode: u64,
     pointer: u64,
     v: Numbers,
-    widths: &'a PerEntry,
-    displacements: &'a PerEntry,
-    origins: &'a PerInstance,
+    ws: &'a PerEntry,
+    ds: &'a PerEntry,
+    ps: &'a PerInstance,
     file: &[u8],
     size: u64,
     o: Offset,
     count: u64,
     buf: &mut [u8],
 ) -> ReadAnswer
-    ensures { λ r. ⌜ ReadMade mode pointer (viewWith v (now (widths .entry)) (now (displacements .entry)) (now (origins .entry))) (now (file .entry)) size (o .0) count (now (buf .entry)) (now (buf .exit)) r ⌝ }
+    ensures { λ r. ⌜ ReadMade mode pointer (viewWith v (now (ws .entry)) (now (ds .entry)) (now (ps .entry))) (now (file .entry)) size (o .0) count (now (buf .entry)) (now (buf .exit)) r ⌝ }
 {
     let refusal = checks::access_refusal(
         limits::reads(mode),
         mode,
         pointer,
         v,
-        widths,
-        displacements,
-        origins,
+        ws,
+        ds,
+        ps,
         file.len() as u64,
         size,
         o,
@@ -54,47 +74,51 @@ pub fn read<'a>(
         buf.len() as u64,
     );
     if refusal != 0 {
-        return ReadAnswer {
-            refusal: refusal,
-            count: 0,
-        };
+        return read_answer(refusal, 0);
     }
-    let moved = mover::gather(v, widths, displacements, origins, file, size, o, count, buf);
-    ReadAnswer {
-        refusal: 0,
-        count: moved,
-    }
+    let moved = mover::gather(v, ws, ds, ps, file, size, o, count, buf);
+    read_answer(0, moved)
 }
 
-// Checks 1, 11, 12, 13 and 14 of a write, and where it ends.
+// The checks of a write: the refusal number, and where a granted one ends.
 struct Judgement {
     refusal: u64,
     end: u64,
 }
 
+fn judged_as(refusal: u64, end: u64) -> Judgement
+    ensures { λ r. ⌜ r ≡ judgedAs refusal end ⌝ }
+{
+    Judgement {
+        refusal: refusal,
+        end: end,
+    }
+}
+
+// Checks 1, 11, 12, 13 and 14 of a write, and where it ends.
 fn judged<'a>(
     mode: u64,
     pointer: u64,
     v: Numbers,
-    widths: &'a PerEntry,
-    displacements: &'a PerEntry,
-    origins: &'a PerInstance,
+    ws: &'a PerEntry,
+    ds: &'a PerEntry,
+    ps: &'a PerInstance,
     len: u64,
     size: u64,
     o: Offset,
     count: u64,
     room: u64,
 ) -> Judgement
-    ensures { λ r. ⌜ Judged mode pointer (viewWith v (now (widths .entry)) (now (displacements .entry)) (now (origins .entry))) len size (o .0) count room r ⌝ }
+    ensures { λ r. ⌜ Judged mode pointer (viewWith v (now (ws .entry)) (now (ds .entry)) (now (ps .entry))) len size (o .0) count room r ⌝ }
 {
     let refusal = checks::access_refusal(
         limits::writes(mode),
         mode,
         pointer,
         v,
-        widths,
-        displacements,
-        origins,
+        ws,
+        ds,
+        ps,
         len,
         size,
         o,
@@ -102,22 +126,13 @@ fn judged<'a>(
         room,
     );
     if refusal != 0 {
-        return Judgement {
-            refusal: refusal,
-            end: 0,
-        };
+        return judged_as(refusal, 0);
     }
-    let end = ending::write_end(v, widths, displacements, origins, o, count);
+    let end = ending::write_end(v, ws, ds, ps, o, count);
     if len < end {
-        return Judgement {
-            refusal: LENGTH,
-            end: 0,
-        };
+        return judged_as(LENGTH, 0);
     }
-    Judgement {
-        refusal: 0,
-        end: end,
-    }
+    judged_as(0, end)
 }
 
 // Writes `count` etypes of the buffer at `o`.
@@ -125,55 +140,24 @@ pub fn write<'a>(
     mode: u64,
     pointer: u64,
     v: Numbers,
-    widths: &'a PerEntry,
-    displacements: &'a PerEntry,
-    origins: &'a PerInstance,
+    ws: &'a PerEntry,
+    ds: &'a PerEntry,
+    ps: &'a PerInstance,
     file: &mut [u8],
     size: u64,
     o: Offset,
     count: u64,
     buf: &[u8],
 ) -> WriteAnswer
-    ensures { λ r. ⌜ WriteMade mode pointer (viewWith v (now (widths .entry)) (now (displacements .entry)) (now (origins .entry))) (now (file .entry)) (now (file .exit)) size (o .0) count (now (buf .entry)) r ⌝ }
+    ensures { λ r. ⌜ WriteMade mode pointer (viewWith v (now (ws .entry)) (now (ds .entry)) (now (ps .entry))) (now (file .entry)) (now (file .exit)) size (o .0) count (now (buf .entry)) r ⌝ }
 {
     let len = file.len() as u64;
     let room = buf.len() as u64;
-    let call = judged(
-        mode,
-        pointer,
-        v,
-        widths,
-        displacements,
-        origins,
-        len,
-        size,
-        o,
-        count,
-        room,
-    );
+    let call = judged(mode, pointer, v, ws, ds, ps, len, size, o, count, room);
     if call.refusal != 0 {
-        return WriteAnswer {
-            refusal: call.refusal,
-            count: 0,
-            size: size,
-        };
+        return write_answer(call.refusal, 0, size);
     }
     let end = call.end;
-    let grown = writer::write(
-        v,
-        widths,
-        displacements,
-        origins,
-        file,
-        size,
-        o,
-        count,
-        end,
-        buf,
-    );
-    WriteAnswer {
-        refusal: 0,
-        count: count,
-        size: grown,
-    }
+    let grown = writer::write(v, ws, ds, ps, file, size, o, count, end, buf);
+    write_answer(0, count, grown)
 }

@@ -5,7 +5,7 @@ use mathlib.Core.List.{List}
 use mathlib.Core.Path.{_≡_, refl, sym, _∙_}
 use borrow.Author.Tests.{leb-true}
 use Rattle.laws.specs.Checks.{also}
-use Rattle.laws.proofs.Booleans.{also-yes, also-no, also-inv, also-false, check-yes, check-no, unflag-true, unflag-false}
+use Rattle.laws.proofs.Booleans.{also-yes, also-inv, also-false, check-yes, check-no, unflag-true, unflag-false}
 use Rattle.view.specs.declared.View.{View}
 use Rattle.view.specs.declared.Numbers.{Numbers}
 use Rattle.view.specs.Limits.{pointerAllowed, fileAllowed}

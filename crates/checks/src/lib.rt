@@ -1,5 +1,5 @@
 // Check 1 of document 01, and the checks of an access and of giving back that come after it.
-// A handle comes as its mode, its pointer, its view's numbers and the view's three lists, which are lent: no call copies it.
+// A handle comes as its mode, its pointer, its view's numbers and the view's lists, which are lent: the etype's widths (ws) and displacements (ds) and the filetype's origins (ps). No call copies it.
 ghost use mathlib.Core.Path.{_≡_};
 ghost use Rattle.view.specs.Numbers.{viewWith};
 ghost use Rattle.checks.specs.Parts.{handleHeld, fileHeld, accessHeld, giveBackHeld};
@@ -16,16 +16,16 @@ pub fn handle_kept<'a>(
     mode: u64,
     pointer: u64,
     v: Numbers,
-    widths: &'a PerEntry,
-    displacements: &'a PerEntry,
-    origins: &'a PerInstance,
+    ws: &'a PerEntry,
+    ds: &'a PerEntry,
+    ps: &'a PerInstance,
 ) -> bool
-    ensures { λ r. ⌜ r ≡ handleHeld mode pointer (viewWith v (now (widths .entry)) (now (displacements .entry)) (now (origins .entry))) ⌝ }
+    ensures { λ r. ⌜ r ≡ handleHeld mode pointer (viewWith v (now (ws .entry)) (now (ds .entry)) (now (ps .entry))) ⌝ }
 {
     if !limits::limits_kept(mode, pointer) {
         return false;
     }
-    held::keeps(mode, v, widths, displacements, origins)
+    held::keeps(mode, v, ws, ds, ps)
 }
 
 // Check 1 where the file is looked at: also its length and its size.
@@ -33,18 +33,18 @@ pub fn file_kept<'a>(
     mode: u64,
     pointer: u64,
     v: Numbers,
-    widths: &'a PerEntry,
-    displacements: &'a PerEntry,
-    origins: &'a PerInstance,
+    ws: &'a PerEntry,
+    ds: &'a PerEntry,
+    ps: &'a PerInstance,
     len: u64,
     size: u64,
 ) -> bool
-    ensures { λ r. ⌜ r ≡ fileHeld mode pointer (viewWith v (now (widths .entry)) (now (displacements .entry)) (now (origins .entry))) len size ⌝ }
+    ensures { λ r. ⌜ r ≡ fileHeld mode pointer (viewWith v (now (ws .entry)) (now (ds .entry)) (now (ps .entry))) len size ⌝ }
 {
     if !limits::file_allowed(len, size) {
         return false;
     }
-    handle_kept(mode, pointer, v, widths, displacements, origins)
+    handle_kept(mode, pointer, v, ws, ds, ps)
 }
 
 // Checks 1, 11, 12 and 13 of an access that the mode allows or not, for a file of `len` bytes and this size, and a buffer of `room` bytes.
@@ -53,21 +53,21 @@ pub fn access_refusal<'a>(
     mode: u64,
     pointer: u64,
     v: Numbers,
-    widths: &'a PerEntry,
-    displacements: &'a PerEntry,
-    origins: &'a PerInstance,
+    ws: &'a PerEntry,
+    ds: &'a PerEntry,
+    ps: &'a PerInstance,
     len: u64,
     size: u64,
     o: Offset,
     count: u64,
     room: u64,
 ) -> u64
-    ensures { λ r. ⌜ r ≡ accessHeld allowed mode pointer (viewWith v (now (widths .entry)) (now (displacements .entry)) (now (origins .entry))) len size (o .0) count room ⌝ }
+    ensures { λ r. ⌜ r ≡ accessHeld allowed mode pointer (viewWith v (now (ws .entry)) (now (ds .entry)) (now (ps .entry))) len size (o .0) count room ⌝ }
 {
-    if !file_kept(mode, pointer, v, widths, displacements, origins, len, size) {
+    if !file_kept(mode, pointer, v, ws, ds, ps, len, size) {
         return HANDLE;
     }
-    let packed = copier::data_size(v.etype.entries, widths);
+    let packed = copier::data_size(v.etype.entries, ws);
     ranges::access_refusal(allowed, o, count, packed, room)
 }
 
@@ -76,17 +76,17 @@ pub fn give_back_refusal<'a>(
     mode: u64,
     pointer: u64,
     v: Numbers,
-    widths: &'a PerEntry,
-    displacements: &'a PerEntry,
-    origins: &'a PerInstance,
+    ws: &'a PerEntry,
+    ds: &'a PerEntry,
+    ps: &'a PerInstance,
     ew: u64,
     ed: u64,
     fw: u64,
     fd: u64,
 ) -> u64
-    ensures { λ r. ⌜ r ≡ giveBackHeld mode pointer (viewWith v (now (widths .entry)) (now (displacements .entry)) (now (origins .entry))) ew ed fw fd ⌝ }
+    ensures { λ r. ⌜ r ≡ giveBackHeld mode pointer (viewWith v (now (ws .entry)) (now (ds .entry)) (now (ps .entry))) ew ed fw fd ⌝ }
 {
-    if !handle_kept(mode, pointer, v, widths, displacements, origins) {
+    if !handle_kept(mode, pointer, v, ws, ds, ps) {
         return HANDLE;
     }
     if !ranges::lists_long(v.etype.entries, v.filetype.instances, ew, ed, fw, fd) {

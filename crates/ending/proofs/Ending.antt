@@ -25,10 +25,10 @@ use Rattle.rules.specs.Parts.{reachOf}
 use Rattle.locate.specs.declared.Spot.{Spot}
 use Rattle.locate.specs.Spots.{spotAt, nextSpot}
 use Rattle.view.proofs.Held.{record-some}
-use Rattle.mover.specs.Moves.{fileByte, IsWriteEnd, writeEnd}
+use Rattle.mover.specs.Moves.{fileByte, writeEnd}
 use Rattle.mover.specs.Parts.{Ranged}
 use Rattle.mover.proofs.Etypes.{reach, entries-kept, data-before, data-last}
-use Rattle.mover.proofs.Walking.{file-byte-run, Walking, walk-none, walk-fits, walk-kept, walk-held, walk-step, walk-more, walk-place, walk-end-fits, positive, first-is, last-bound}
+use Rattle.mover.proofs.Walking.{file-byte-run, Walking, walk-none, walk-more, walk-place, walk-end-fits, positive, first-is, last-bound}
 use Rattle.mover.proofs.Writing.{write-end-none, write-end-only}
 
 -- the same instance, j tiles later

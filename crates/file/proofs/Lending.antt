@@ -1,7 +1,7 @@
 -- A handle as its calls lend it: the numbers of its view by value and the view's lists. Check 1 of these is check 1 of the handle, and what it leaves is what the functions below ask for.
 use Prim.Native.Nat.{ℕ, _≤_}
 use mathlib.Core.Bool.{Bool, not, false}
-use mathlib.Core.Path.{_≡_, sym, ap, _∙_}
+use mathlib.Core.Path.{_≡_, ap, _∙_}
 use Rattle.laws.proofs.Booleans.{unflag-true}
 use Rattle.view.specs.declared.View.{View}
 use Rattle.view.specs.declared.Numbers.{Numbers}

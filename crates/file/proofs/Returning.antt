@@ -1,8 +1,8 @@
 -- Giving back: its refusals, what a granted one hands to the function that fills the lists, and the answer.
-use Prim.Native.Nat.{ℕ, _*_, _≤_, _<_}
-use mathlib.Core.Bool.{Bool, true, false, not}
+use Prim.Native.Nat.{ℕ, _*_}
+use mathlib.Core.Bool.{true}
 use mathlib.Core.List.{List}
-use mathlib.Core.Path.{_≡_, refl, sym, _∙_, ap}
+use mathlib.Core.Path.{_≡_, sym, _∙_, ap}
 use native.Mathlib.Nat.{mul-le-mul}
 use native.Mathlib.Omega.{arith}
 use borrow.Author.Tests.{leb-true}
@@ -12,7 +12,7 @@ use lib.ListN.{length}
 use mir.Syntax.{w64}
 use mir.Val.{Fits}
 use Rattle.laws.specs.Checks.{also, granted}
-use Rattle.laws.proofs.Booleans.{also-inv, check-yes, check-no, check-inv, granted-no, unflag-true, unflag-false}
+use Rattle.laws.proofs.Booleans.{also-inv, check-inv, granted-no}
 use Rattle.view.specs.declared.View.{View}
 use Rattle.view.specs.declared.Numbers.{Numbers}
 use Rattle.view.specs.Types.{paper, entries, extentOf, whole}

@@ -1,5 +1,5 @@
 -- The typemaps that the lists of a kept view's record make are those of the view on paper.
-use Prim.Native.Nat.{ℕ, _+_, _*_, _≤_, _<_}
+use Prim.Native.Nat.{ℕ, _+_, _*_, _≤_}
 use mathlib.Core.List.{List}
 use mathlib.Core.Path.{_≡_, refl, sym, ap, _∙_}
 use native.Mathlib.Nat.{mod-eq-of-lt, div-eq-of-lt, one-mul}
@@ -14,7 +14,7 @@ use Rattle.view.specs.declared.Numbers.{Numbers}
 use Rattle.view.specs.Types.{paper, entries, widthAt, displacementAt}
 use Rattle.view.specs.Rules.{Kept}
 use Rattle.view.specs.Numbers.{viewWith}
-use Rattle.view.proofs.Paper.{paper-entries, paper-file-entries, paper-width, paper-displacement, paper-file-width, paper-file-displacement, paper-instances}
+use Rattle.view.proofs.Paper.{paper-entries, paper-file-entries, paper-width, paper-displacement, paper-file-width, paper-file-displacement}
 use Rattle.view.proofs.Accepted.{facts}
 use Rattle.view.proofs.Held.{some-entry, few-entries, record-entry, record-few}
 use Rattle.given.specs.Parts.{groupWidth, groupDisplacement, Room, Signed}

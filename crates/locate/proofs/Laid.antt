@@ -1,7 +1,6 @@
 -- A kept view: its numbers and origins keep the limits that places ask for, and what is said of them here is what document 01 says of the view.
-use Prim.Native.Nat.{ℕ, _<_}
-use mathlib.Core.Path.{_≡_, sym, _∙_}
-use native.Mathlib.Omega.{arith}
+use Prim.Native.Nat.{ℕ}
+use mathlib.Core.Path.{_≡_, sym}
 use Rattle.laws.proofs.Sums.{greatest-same}
 use Rattle.view.specs.declared.View.{View}
 use Rattle.view.specs.Types.{paper}

@@ -3,7 +3,7 @@ use Prim.Native.Nat.{ℕ, _+_, _-_, _*_, _/_, _%_, _≤_, _<_}
 use mathlib.Core.Bool.{true}
 use mathlib.Core.List.{List}
 use mathlib.Core.Logic.{⊎-elim}
-use mathlib.Core.Path.{_≡_, refl, sym, ap, _∙_}
+use mathlib.Core.Path.{_≡_, refl, ap, _∙_}
 use native.Mathlib.Nat.{mul-le-mul, div-le-self, mod-lt}
 use native.Mathlib.Omega.{arith}
 use borrow.Author.Tests.{ltb-true, lt-ltb, le-ltb}
@@ -13,7 +13,7 @@ use mir.Syntax.{w64}
 use mir.Val.{Fits, toZ, ofZ}
 use mir.Facts.{toZ-ofZ}
 use Rattle.laws.specs.Lists.{nth}
-use Rattle.laws.proofs.Sums.{Highest, highest-none, highest-more, highest-end, greatest-least}
+use Rattle.laws.proofs.Sums.{Highest, highest-end, greatest-least}
 use Rattle.laws.proofs.Booleans.{not-both, lt-or-le}
 use Rattle.laws.proofs.Quotients.{next-in, next-over, times-more}
 use Rattle.view.specs.declared.Numbers.{Numbers}

@@ -26,7 +26,7 @@ use Rattle.copier.specs.Parts.{sizeOf, byteIn, placeIn, Lies}
 use Rattle.mover.specs.Moves.{fileByte, inFile, moved, readInto}
 use Rattle.mover.specs.Parts.{Movable, ReadDone}
 use Rattle.mover.proofs.Etypes.{entries-kept, data-is, place-in, in-file-yes, in-file-no}
-use Rattle.mover.proofs.Walking.{file-byte-run, Walking, walk-fits, walk-kept, walk-held, walk-step, walk-more, walk-place, walk-end-fits, walk-size, walk-room, move-offset, first-is, last-fits, walk-begun}
+use Rattle.mover.proofs.Walking.{file-byte-run, Walking, walk-more, walk-place, walk-end-fits, walk-size, walk-room, first-is, walk-begun}
 
 -- etype o + t lies in the file
 abbrev pub lying : PaperView → ℕ → ℕ → ℕ → Bool

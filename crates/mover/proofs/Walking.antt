@@ -1,5 +1,5 @@
 -- What both movers and the end of a write share: a walk from the spot of an offset to that of the next, in which no sum wraps, and the part of the buffer that belongs to each etype.
-use Prim.Native.Nat.{ℕ, _+_, _-_, _*_, _^_, _≤_, _<_}
+use Prim.Native.Nat.{ℕ, _+_, _-_, _*_, _≤_, _<_}
 use mathlib.Core.Bool.{true}
 use mathlib.Core.List.{List}
 use mathlib.Core.Logic.{⊎-elim}

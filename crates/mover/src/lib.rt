@@ -27,8 +27,9 @@ pub fn gather<'a>(
     if count == 0 {
         return 0;
     }
-    let packed = copier::data_size(v.etype.entries, widths);
-    let reach = rules::reach_of(v.etype.entries, widths, displacements);
+    let n = v.etype.entries;
+    let packed = copier::data_size(n, widths);
+    let reach = rules::reach_of(n, widths, displacements);
     let first = view::natural(o.0);
     let last = first + count;
     let mut spot = locate::spot_of(v, o);
@@ -40,14 +41,7 @@ pub fn gather<'a>(
             return x - first;
         }
         let from = ((x - first) * packed) as usize;
-        copier::copy_out(
-            v.etype.entries,
-            widths,
-            displacements,
-            file,
-            place,
-            &mut buf[from..],
-        );
+        copier::copy_out(n, widths, displacements, file, place, &mut buf[from..]);
         spot = locate::next_spot(spot, v.filetype.instances, v.filetype.extent);
         x += 1;
     }

@@ -22,7 +22,7 @@ use Rattle.view.specs.Rules.{Kept}
 use Rattle.view.specs.Places.{packedBefore}
 use Rattle.view.specs.Numbers.{viewWith}
 use Rattle.view.specs.Owners.{entryStart, offsetIn, indexIn, hits, hitEntry, ownerOf}
-use Rattle.view.proofs.Paper.{paper-entries, paper-file-entries, paper-width, paper-displacement, paper-file-width, paper-file-displacement, paper-file-extent, paper-start, paper-instances, paper-origin}
+use Rattle.view.proofs.Paper.{paper-entries, paper-file-entries, paper-width, paper-file-width, paper-file-displacement, paper-file-extent, paper-start, paper-instances}
 use Rattle.view.proofs.Held.{start-small, some-entry, few-entries, record-entry, record-few, record-extent, record-origin}
 use Rattle.reverse.specs.Parts.{firstOwner, entryOwner, ownerAt, instanceOwner, InstanceKept}
 use Rattle.reverse.proofs.Firsts.{first-runs, first-same, first-searched, Missed, missed-more, missed-stop, missed-end}

@@ -10,7 +10,7 @@ use lib.Seq.{getD-drop}
 use mir.Syntax.{w64}
 use mir.Val.{Fits, toZ, ofZ}
 use Rattle.laws.specs.Lists.{nth, store}
-use Rattle.laws.proofs.Stores.{store-none, length-store}
+use Rattle.laws.proofs.Stores.{store-none}
 use Rattle.laws.proofs.Runs.{store-run, tail-lent}
 use Rattle.laws.proofs.Quotients.{times-more, run-below}
 use Rattle.view.specs.declared.View.{View}
@@ -18,14 +18,13 @@ use Rattle.view.specs.Types.{paper, whole}
 use Rattle.view.specs.Places.{place, byteOf, dataSize}
 use Rattle.view.specs.Numbers.{numbersOf}
 use Rattle.view.proofs.Held.{record-allowed}
-use Rattle.rules.specs.Parts.{reachOf}
 use Rattle.locate.specs.declared.Spot.{Spot}
 use Rattle.locate.specs.Spots.{spotAt, nextSpot}
 use Rattle.runs.specs.Parts.{onward, always}
 use Rattle.copier.specs.Parts.{sizeOf, placeIn, Lies}
 use Rattle.mover.specs.Moves.{fileByte, writeEnd, newSize, written}
 use Rattle.mover.proofs.Etypes.{reach, entries-kept, data-is, place-in, data-last}
-use Rattle.mover.proofs.Walking.{file-byte-run, Walking, walk-fits, walk-kept, walk-held, walk-step, walk-more, walk-place, walk-size, walk-room, move-offset, first-is, last-fits, walk-begun}
+use Rattle.mover.proofs.Walking.{file-byte-run, Walking, walk-more, walk-place, walk-size, walk-room, first-is, walk-begun}
 use Rattle.mover.proofs.Writing.{write-end-is}
 use Rattle.writer.specs.Parts.{Storable, Writable, WriteDone}
 

@@ -35,7 +35,8 @@ pub fn scatter<'a>(
     if count == 0 {
         return;
     }
-    let packed = copier::data_size(v.etype.entries, widths);
+    let n = v.etype.entries;
+    let packed = copier::data_size(n, widths);
     let first = view::natural(o.0);
     let last = first + count;
     let mut spot = locate::spot_of(v, o);
@@ -43,14 +44,7 @@ pub fn scatter<'a>(
     while x < last {
         let place = locate::begin_at(origins, spot);
         let from = ((x - first) * packed) as usize;
-        copier::copy_in(
-            v.etype.entries,
-            widths,
-            displacements,
-            &buf[from..],
-            file,
-            place,
-        );
+        copier::copy_in(n, widths, displacements, &buf[from..], file, place);
         spot = locate::next_spot(spot, v.filetype.instances, v.filetype.extent);
         x += 1;
     }

@@ -21,7 +21,10 @@ judged-spec =
     (tie.spec
     (λ c κs. tt)
     (λ c κs. tt)
+    (λ c κs. tt)
     returns
     write-end-requires
+    (λ c κs. tt)
     returns-2
+    (λ c κs. tt)
     returns-3)

@@ -19,7 +19,9 @@ read-spec =
     (tie.spec
     (λ c κs. tt)
     (λ c κs. tt)
+    (λ c κs. tt)
     returns
     gather-requires
+    (λ c κs. tt)
     (λ c. search needs)
     returns-2)

@@ -18,7 +18,9 @@ write-spec =
     tie.close
     (tie.spec
     (λ c κs. tt)
+    (λ c κs. tt)
     returns
     write-requires
+    (λ c κs. tt)
     (λ c. search needs)
     returns-2)

@@ -10,10 +10,10 @@ use Rattle.mover.proofs.gather.Statement.{statement}
 use Rattle.mover.proofs.gather.Tie as tie
 
 abbrev Inv-loop : tie.InvT-loop
-Inv-loop v widths displacements origins file size count buf₀ packed reach first last spot₀ x₀ buf spot x = Gathering (viewWith v widths displacements origins) file size first count packed reach buf₀ buf x spot
+Inv-loop v widths displacements origins file size count buf₀ n packed reach first last spot₀ x₀ buf spot x = Gathering (viewWith v widths displacements origins) file size first count packed reach buf₀ buf x spot
 
 abbrev μ-loop : tie.MeasureT-loop
-μ-loop v widths displacements origins file size count buf₀ packed reach first last spot₀ x₀ buf spot x = last - x
+μ-loop v widths displacements origins file size count buf₀ n packed reach first last spot₀ x₀ buf spot x = last - x
 
 returns : tie.Need-returns Inv-loop μ-loop
 returns c = search move-none

@@ -1,6 +1,5 @@
 -- `owner_of` tries instance after instance. The invariant: no instance before g has a pair of the byte. Assumes nothing.
 use Prim.Native.Nat.{_-_}
-use borrow.Author.Needs.{needs}
 use native.Mathlib.Omega.{arith}
 use Rattle.view.specs.Numbers.{viewWith}
 use Rattle.reverse.proofs.Firsts.{Missed, missed-none}

@@ -10,10 +10,10 @@ use Rattle.writer.proofs.scatter.Statement.{statement}
 use Rattle.writer.proofs.scatter.Tie as tie
 
 abbrev Inv-loop : tie.InvT-loop
-Inv-loop v widths displacements origins file₀ count buf packed first last spot₀ x₀ file spot x = Scattering (viewWith v widths displacements origins) buf first count packed file₀ file x spot
+Inv-loop v widths displacements origins file₀ count buf n packed first last spot₀ x₀ file spot x = Scattering (viewWith v widths displacements origins) buf first count packed file₀ file x spot
 
 abbrev μ-loop : tie.MeasureT-loop
-μ-loop v widths displacements origins file₀ count buf packed first last spot₀ x₀ file spot x = last - x
+μ-loop v widths displacements origins file₀ count buf n packed first last spot₀ x₀ file spot x = last - x
 
 returns : tie.Need-returns Inv-loop μ-loop
 returns c = search scatter-none
