@@ -8,8 +8,8 @@ use Rattle.view.specs.declared.Numbers.{Numbers}
 use Rattle.view.specs.Types.{paper}
 use Rattle.view.specs.Rules.{Kept}
 use Rattle.view.specs.Numbers.{numbersOf, viewWith}
-use Rattle.locate.specs.Spots.{Tiled, Begun}
-use Rattle.locate.proofs.Laid.{tiled, begun}
+use Rattle.locate.specs.Spots.{Tiled, OriginsLow}
+use Rattle.locate.proofs.Laid.{tiled, origins-low}
 use Rattle.checks.specs.Parts.{handleHeld, fileHeld}
 use Rattle.file.specs.declared.Handle.{Handle}
 use Rattle.file.specs.declared.FileRecord.{FileRecord}
@@ -27,8 +27,8 @@ module _ (h : Handle) (f : Numbers) (s : f ≡ numbersOf (h .view)) where
   lent-tiled : Kept (paper (h .view)) → Tiled f
   lent-tiled k = rw s (tiled (h .view) k)
 
-  lent-begun : Kept (paper (h .view)) → Begun f (h .view .filetype .origins)
-  lent-begun k = rw s (begun (h .view) k)
+  lent-origins : Kept (paper (h .view)) → OriginsLow f (h .view .filetype .origins)
+  lent-origins k = rw s (origins-low (h .view) k)
 
   module _ (t : Bool) (q : t ≡ handleHeld (h .mode) (h .pointer) (lentOf h f)) where
     pub handle-judged : t ≡ handleKept h
@@ -45,8 +45,8 @@ module _ (h : Handle) (f : Numbers) (s : f ≡ numbersOf (h .view)) where
       pub handle-tiled : Tiled f
       handle-tiled = lent-tiled kept
 
-      pub handle-begun : Begun f (h .view .filetype .origins)
-      handle-begun = lent-begun kept
+      pub handle-origins : OriginsLow f (h .view .filetype .origins)
+      handle-origins = lent-origins kept
 
   module _ (len : ℕ) (r : FileRecord) (t : Bool) (q : t ≡ fileHeld (h .mode) (h .pointer) (lentOf h f) len (r .size)) where
     pub file-judged : t ≡ fileKept h len r
@@ -57,8 +57,8 @@ module _ (h : Handle) (f : Numbers) (s : f ≡ numbersOf (h .view)) where
       pub file-tiled : Tiled f
       file-tiled = lent-tiled (file-kept-view h len r (unflag-true t _ file-judged n))
 
-      pub file-begun : Begun f (h .view .filetype .origins)
-      file-begun = lent-begun (file-kept-view h len r (unflag-true t _ file-judged n))
+      pub file-origins : OriginsLow f (h .view .filetype .origins)
+      file-origins = lent-origins (file-kept-view h len r (unflag-true t _ file-judged n))
 
       pub file-size : r .size ≤ 1099511627776
       file-size = size-limit h len r (unflag-true t _ file-judged n)

@@ -7,7 +7,7 @@ ghost use lib.ListN.{length};
 ghost use Rattle.view.specs.Limits.{maxFileLength};
 ghost use Rattle.view.specs.Types.{paper};
 ghost use Rattle.view.specs.Rules.{Kept};
-ghost use Rattle.locate.specs.Spots.{Tiled, Begun};
+ghost use Rattle.locate.specs.Spots.{Tiled, OriginsLow};
 ghost use Rattle.lent.specs.Lists.{lentType, lentView};
 ghost use Rattle.file.specs.Handles.{freshHandle, modeGot, startOf};
 ghost use Rattle.file.specs.Answers.{openAnswer, setViewAnswer, givenAs, GaveBack, placeAnswer, reverseAnswer, endAnswer, seekAnswer, ReadAt, ReadNext, WriteAt, WriteNext};
@@ -206,7 +206,7 @@ fn mode_got(mode: u64) -> u64
 
 // What a seek adds its offset to: nothing, the pointer or the end of file.
 fn seek_base(pointer: u64, v: Numbers, origins: &PerInstance, size: u64, whence: u64) -> u64
-    requires { ⌜ Tiled v × Begun v (now origins) × (size ≤ maxFileLength) ⌝ }
+    requires { ⌜ Tiled v × OriginsLow v (now origins) × (size ≤ maxFileLength) ⌝ }
     ensures { λ r. ⌜ r ≡ baseOn pointer v (now (origins .entry)) size whence ⌝ }
 {
     if whence == Handle::SEEK_SET {

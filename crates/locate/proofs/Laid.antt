@@ -10,7 +10,7 @@ use Rattle.view.specs.End.{endOfFile}
 use Rattle.view.specs.Numbers.{numbersOf}
 use Rattle.view.proofs.Paper.{paper-instances, paper-origin, paper-place, paper-file-extent, paper-start}
 use Rattle.view.proofs.Held.{start-small, some-entry, record-some, record-few, record-extent, extent-small, record-origin}
-use Rattle.locate.specs.Spots.{Tiled, Begun, placeOn, endAt, endOn}
+use Rattle.locate.specs.Spots.{Tiled, OriginsLow, placeOn, endAt, endOn}
 
 module _ (v : View) (k : Kept (paper v)) where
   pub tiled : Tiled (numbersOf v)
@@ -22,8 +22,8 @@ module _ (v : View) (k : Kept (paper v)) where
     small = extent-small v k;
   }
 
-  pub begun : Begun (numbersOf v) (v .filetype .origins)
-  begun = record { origin = record-origin v k }
+  pub origins-low : OriginsLow (numbersOf v) (v .filetype .origins)
+  origins-low = record { origin = record-origin v k }
 
   pub place-is : (x : ℕ) → placeOn (numbersOf v) (v .filetype .origins) x ≡ place (paper v) x
   unfolding placeOn

@@ -21,7 +21,7 @@ use Rattle.view.specs.Limits.{offsetAllowed}
 use Rattle.view.specs.Types.{whole}
 use Rattle.view.specs.End.{endFrom}
 use Rattle.locate.specs.declared.Spot.{Spot}
-use Rattle.locate.specs.Spots.{Tiled, Begun, spotAt, placeOn, nextSpot, SpotKept, endAt, endOn}
+use Rattle.locate.specs.Spots.{Tiled, OriginsLow, spotAt, placeOn, nextSpot, SpotKept, endAt, endOn}
 
 offset-small : (z : ℤ) → offsetAllowed z ≡ true → whole z ≤ 4294967295
 unfolding offsetAllowed whole
@@ -116,7 +116,7 @@ module _ (v : Numbers) (k : Tiled v) where
     unfolding placeOn
     spot-placed ps r e = rw (spot-tile, spot-instance) at e
 
-    module _ (ps : List ℕ) (b : Begun v ps) (l : x < 4294967296) where
+    module _ (ps : List ℕ) (b : OriginsLow v ps) (l : x < 4294967296) where
       -- no etype begins past this
       pub spot-small : s .tile .0 + nth ps (s .instance) < 4505798650626048
       spot-small = omega (arith, spot-tile, tile-small x l, k .start, b .origin (s .instance) instance-below)
@@ -150,7 +150,7 @@ module _ (v : Numbers) (k : Tiled v) where
   origin-below i l = omega (arith, k .few)
 
   module _ (ps : List ℕ) where
-    pub start-fits : Begun v ps → (i : ℕ) → i < v .filetype .instances → Fits w64 (v .displacement + getD ps i 0)
+    pub start-fits : OriginsLow v ps → (i : ℕ) → i < v .filetype .instances → Fits w64 (v .displacement + getD ps i 0)
     start-fits b i l = record { fits = omega (arith, b .origin i l, k .start) }
 
     module _ (size : ℕ) where

@@ -19,8 +19,8 @@ pub record Tiled (v : Numbers) : Type 0 where
   pub extent : 0 < v .filetype .extent
   pub small : v .filetype .extent ≤ maxExtent
 
--- and so do the origins ps of the instances
-pub record Begun (v : Numbers) (ps : List ℕ) : Type 0 where
+-- and so do the origins ps of the instances: each lies below the limit on an entry's end
+pub record OriginsLow (v : Numbers) (ps : List ℕ) : Type 0 where
   pub origin : (i : ℕ) → i < v .filetype .instances → nth ps i < maxEntryEnd
 
 -- the spot of offset x: the beginning of its tile, and its instance there

@@ -8,7 +8,7 @@ ghost use Rattle.laws.specs.Lists.{nth};
 ghost use Rattle.view.specs.Limits.{maxInstances, maxFileLength, offsetAllowed};
 ghost use Rattle.view.specs.Types.{whole};
 ghost use Rattle.view.specs.End.{endFrom};
-ghost use Rattle.locate.specs.Spots.{Tiled, Begun, spotAt, nextSpot, SpotKept, placeOn, endOn};
+ghost use Rattle.locate.specs.Spots.{Tiled, OriginsLow, spotAt, nextSpot, SpotKept, placeOn, endOn};
 use view::BytePos;
 use view::Numbers;
 use view::Offset;
@@ -69,7 +69,7 @@ pub fn begin_at(origins: &PerInstance, s: Spot) -> BytePos
 
 // The byte at which the etype at offset `o` begins. For our own crates.
 pub fn place_of(v: Numbers, origins: &PerInstance, o: Offset) -> BytePos
-    requires { ⌜ Tiled v × Begun v (now origins) × (offsetAllowed (o .0) ≡ true) ⌝ }
+    requires { ⌜ Tiled v × OriginsLow v (now origins) × (offsetAllowed (o .0) ≡ true) ⌝ }
     ensures { λ r. ⌜ r .0 ≡ placeOn v (now (origins .entry)) (whole (o .0)) ⌝ }
 {
     let spot = spot_of(v, o);
@@ -94,7 +94,7 @@ fn end_from(start: u64, size: u64, extent: u64, instances: u64, i: u64) -> u64
 
 // End of file in etypes, by one division for each instance: places need not rise with the offset. For our own crates.
 pub fn end_of(v: Numbers, origins: &PerInstance, size: u64) -> Offset
-    requires { ⌜ Tiled v × Begun v (now origins) × (size ≤ maxFileLength) ⌝ }
+    requires { ⌜ Tiled v × OriginsLow v (now origins) × (size ≤ maxFileLength) ⌝ }
     ensures { λ r. ⌜ r .0 ≡ pos (endOn v (now (origins .entry)) size) ⌝ }
 {
     let instances = v.filetype.instances;

@@ -22,7 +22,7 @@ use Rattle.rules.specs.Parts.{reachOf}
 use Rattle.locate.specs.declared.Spot.{Spot}
 use Rattle.locate.specs.Spots.{Tiled, spotAt, nextSpot, SpotKept}
 use Rattle.locate.proofs.Placing.{offset-read, spot-held, spot-placed, spot-step, spot-small, spot-kept, spot-next}
-use Rattle.locate.proofs.Laid.{tiled, begun, place-is}
+use Rattle.locate.proofs.Laid.{tiled, origins-low, place-is}
 use Rattle.copier.specs.Parts.{sizeOf}
 use Rattle.mover.specs.Moves.{fileByte}
 use Rattle.mover.specs.Parts.{Ranged}
@@ -54,14 +54,8 @@ module _ (v : View) (o last x : ℕ) (s : Spot) (w : Walking v o last x s) (l : 
   pub walk-fits : Fits w64 (x + 1)
   walk-fits = record { fits = omega (arith, below) }
 
-  pub walk-kept : SpotKept (v .filetype .origins) s
-  walk-kept = spot-kept (numbersOf v) tiles x s (w .spot) (v .filetype .origins) (begun v (w .kept)) below
-
   pub walk-held : s .instance < 64
   walk-held = spot-held (numbersOf v) tiles x s (w .spot)
-
-  pub walk-step : s .tile .0 + v .filetype .extent < 18446744073709551616
-  walk-step = spot-step (numbersOf v) tiles x s (w .spot) below
 
   pub walk-more : (s' : Spot) → s' ≡ nextSpot s (v .filetype .instances) (v .filetype .extent) → Walking v o last (x + 1) s'
   walk-more s' n = record {
@@ -78,7 +72,7 @@ module _ (v : View) (o last x : ℕ) (s : Spot) (w : Walking v o last x s) (l : 
     walk-place = spot-placed (numbersOf v) tiles x s (w .spot) (v .filetype .origins) p begins ∙ place-is v (w .kept) x
 
     pub walk-end-fits : (r : ℕ) → r ≡ reachOf (v .etype .widths) (v .etype .displacements) (v .etype .entries) → Fits w64 (p + r)
-    walk-end-fits r e = record { fits = omega (arith, spot-small (numbersOf v) tiles x s (w .spot) (v .filetype .origins) (begun v (w .kept)) below, reach-small v (w .kept)) }
+    walk-end-fits r e = record { fits = omega (arith, spot-small (numbersOf v) tiles x s (w .spot) (v .filetype .origins) (origins-low v (w .kept)) below, reach-small v (w .kept)) }
 
   -- S bytes of the buffer, from (x - o)·S on, are the etype's
   module _ (S : ℕ) (sized : S ≡ sizeOf (v .etype .entries) (v .etype .widths)) where
@@ -119,7 +113,7 @@ module _ (v : Numbers) (ws ds ps : List ℕ) where
 
   module _ (o last x : ℕ) (s : Spot) (w : Walking (viewWith v ws ds ps) o last x s) (l : x < last) where
     pub lent-kept : SpotKept ps s
-    lent-kept = walk-kept (viewWith v ws ds ps) o last x s w l
+    lent-kept = spot-kept v (tiled (viewWith v ws ds ps) (w .kept)) x s (w .spot) ps (origins-low (viewWith v ws ds ps) (w .kept)) (omega (arith, w .bound))
 
     pub lent-step : s .tile .0 + v .filetype .extent < 18446744073709551616
-    lent-step = walk-step (viewWith v ws ds ps) o last x s w l
+    lent-step = spot-step v (tiled (viewWith v ws ds ps) (w .kept)) x s (w .spot) (omega (arith, w .bound))

@@ -14,8 +14,8 @@ use Rattle.view.specs.Types.{paper}
 use Rattle.view.specs.Rules.{accepted, Kept}
 use Rattle.view.specs.Numbers.{viewWith}
 use Rattle.view.proofs.Accepted.{accepted-kept}
-use Rattle.locate.specs.Spots.{Tiled, Begun}
-use Rattle.locate.proofs.Laid.{tiled, begun}
+use Rattle.locate.specs.Spots.{Tiled, OriginsLow}
+use Rattle.locate.proofs.Laid.{tiled, origins-low}
 
 module _ (v : Numbers) (ws ds ps : List ℕ) (mode : ℕ) (t : Bool) (e : t ≡ accepted mode (paper (viewWith v ws ds ps))) (h : not t ≡ false) where
   kept : Kept (paper (viewWith v ws ds ps))
@@ -24,11 +24,11 @@ module _ (v : Numbers) (ws ds ps : List ℕ) (mode : ℕ) (t : Bool) (e : t ≡ 
   pub tested-tiled : Tiled v
   tested-tiled = tiled (viewWith v ws ds ps) kept
 
-  pub tested-begun : Begun v ps
-  tested-begun = begun (viewWith v ws ds ps) kept
+  pub tested-origins : OriginsLow v ps
+  tested-origins = origins-low (viewWith v ws ds ps) kept
 
 pub first-allowed : (z : ℤ) (o : ℕ) → z ≡ pos o → o < 5 → offsetAllowed z ≡ true
 unfolding offsetAllowed
 first-allowed z o e l = ap offsetAllowed e ∙ lt-ltb o 4294967296 (omega arith)
 
-pub ruleset showing = (needs, tested-tiled, tested-begun, first-allowed)
+pub ruleset showing = (needs, tested-tiled, tested-origins, first-allowed)

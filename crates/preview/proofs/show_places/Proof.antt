@@ -1,12 +1,12 @@
 -- `show_places` calls nothing that its tests do not allow, and ends. Assumes nothing but what libc's functions say.
 use Prim.Native.Nat.{_-_, _≤_}
-use Rattle.locate.specs.Spots.{Tiled, Begun}
+use Rattle.locate.specs.Spots.{Tiled, OriginsLow}
 use Rattle.preview.proofs.Showing.{showing}
 use Rattle.preview.proofs.show_places.Statement.{statement}
 use Rattle.preview.proofs.show_places.Tie as tie
 
 abbrev Inv-loop : tie.InvT-loop
-Inv-loop v widths displacements origins mode size o₀ t1 t2 t3 t4 o = (o ≤ 5) × Tiled v × Begun v origins
+Inv-loop v widths displacements origins mode size o₀ t1 t2 t3 t4 o = (o ≤ 5) × Tiled v × OriginsLow v origins
 
 abbrev μ-loop : tie.MeasureT-loop
 μ-loop v widths displacements origins mode size o₀ t1 t2 t3 t4 o = 5 - o

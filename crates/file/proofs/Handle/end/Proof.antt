@@ -1,5 +1,5 @@
 -- `end` follows check 1; what it leaves is what `end_of` requires. Assumes nothing.
-use Rattle.file.proofs.Lending.{file-tiled, file-begun, file-size}
+use Rattle.file.proofs.Lending.{file-tiled, file-origins, file-size}
 use Rattle.file.proofs.Answering.{end-handle, end-done}
 use Rattle.file.proofs.Handle.end.Statement.{statement}
 use Rattle.file.proofs.Handle.end.Tie as tie
@@ -11,7 +11,7 @@ returns c =
     end-handle _ _ _ _ (numbered .numbers .ensures) _ (kept .file-kept .ensures) (c .if1 .taken)
 
 end-of-requires : tie.Need-end-of-requires
-end-of-requires c κs = (search file-tiled, search file-begun, search file-size)
+end-of-requires c κs = (search file-tiled, search file-origins, search file-size)
 
 returns-2 : tie.Need-returns-2
 returns-2 c =

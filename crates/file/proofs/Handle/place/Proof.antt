@@ -1,6 +1,6 @@
 -- `place` follows checks 1 and 12; what they leave is what `place_of` requires. Assumes nothing.
 use Rattle.laws.proofs.Booleans.{unflag-true}
-use Rattle.file.proofs.Lending.{handle-tiled, handle-begun}
+use Rattle.file.proofs.Lending.{handle-tiled, handle-origins}
 use Rattle.file.proofs.Answering.{place-handle, place-range, place-done}
 use Rattle.file.proofs.Handle.place.Statement.{statement}
 use Rattle.file.proofs.Handle.place.Tie as tie
@@ -16,7 +16,7 @@ returns-2 c =
     place-range _ _ _ (numbered .numbers .ensures) _ (kept .handle-kept .ensures) (passed .if1 .left) _ (c .before .offset-allowed .ensures) (c .if2 .taken)
 
 place-of-requires : tie.Need-place-of-requires
-place-of-requires c κs = (search handle-tiled, search handle-begun, unflag-true _ _ (c .before .before .before .offset-allowed .ensures) (c .before .before .if2 .left))
+place-of-requires c κs = (search handle-tiled, search handle-origins, unflag-true _ _ (c .before .before .before .offset-allowed .ensures) (c .before .before .if2 .left))
 
 returns-3 : tie.Need-returns-3
 returns-3 c =

@@ -1,5 +1,5 @@
 -- `seek` follows check 1, and then checks 15 and 12 on numbers; the target is the base plus the offset. Assumes nothing.
-use Rattle.file.proofs.Lending.{file-tiled, file-begun, file-size}
+use Rattle.file.proofs.Lending.{file-tiled, file-origins, file-size}
 use Rattle.file.proofs.Seeking.{seek-handle, seek-refused, seek-done}
 use Rattle.file.proofs.Handle.seek.Statement.{statement}
 use Rattle.file.proofs.Handle.seek.Tie as tie
@@ -8,7 +8,7 @@ returns : tie.Need-returns
 returns c = search seek-handle
 
 seek-base-requires : tie.Need-seek-base-requires
-seek-base-requires c κs = (search file-tiled, search file-begun, search file-size)
+seek-base-requires c κs = (search file-tiled, search file-origins, search file-size)
 
 returns-2 : tie.Need-returns-2
 returns-2 c =
