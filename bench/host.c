@@ -4,7 +4,7 @@
 #include <stdio.h>
 #include <stdlib.h>
 
-/* crates/rounds: a slice is a pointer and a length. */
+/* crates/bench_rounds: a slice is a pointer and a length. */
 uint64_t glyphbirch_read_rounds(const uint8_t *view, size_t view_bytes, const uint8_t *file, size_t file_bytes, uint64_t size,
                                 int64_t offset, uint64_t count, uint64_t rounds, uint8_t *buf, size_t buf_bytes);
 uint64_t glyphbirch_write_rounds(const uint8_t *view, size_t view_bytes, uint8_t *file, size_t file_bytes, uint64_t size,

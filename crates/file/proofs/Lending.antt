@@ -6,15 +6,15 @@ use Rattle.laws.proofs.Booleans.{unflag-true}
 use Rattle.view.specs.declared.View.{View}
 use Rattle.view.specs.declared.Numbers.{Numbers}
 use Rattle.view.specs.Types.{paper}
-use Rattle.view.specs.Rules.{Kept}
+use Rattle.view.specs.Rules.{Valid}
 use Rattle.view.specs.Numbers.{numbersOf, viewWith}
-use Rattle.locate.specs.Spots.{Tiled, OriginsLow}
-use Rattle.locate.proofs.Laid.{tiled, origins-low}
-use Rattle.checks.specs.Parts.{handleHeld, fileHeld}
+use Rattle.view_place.specs.Spots.{Tiled, OriginsLow}
+use Rattle.view_place.proofs.Laid.{tiled, origins-low}
+use Rattle.call_checks.specs.Parts.{handlePartsValid, filePartsValid}
 use Rattle.file.specs.declared.Handle.{Handle}
 use Rattle.file.specs.declared.FileRecord.{FileRecord}
-use Rattle.file.specs.Handles.{viewOf, handleKept, fileKept}
-use Rattle.file.proofs.Checking.{handle-view, file-kept-view, size-limit}
+use Rattle.file.specs.Handles.{viewOf, handleValid, fileValid}
+use Rattle.file.proofs.Checking.{handle-view, file-valid-view, size-limit}
 
 -- the view that is lent
 abbrev pub lentOf : Handle → Numbers → View
@@ -24,41 +24,41 @@ module _ (h : Handle) (f : Numbers) (s : f ≡ numbersOf (h .view)) where
   pub lent-same : lentOf h f ≡ h .view
   lent-same = ap (lentOf h) s
 
-  lent-tiled : Kept (paper (h .view)) → Tiled f
+  lent-tiled : Valid (paper (h .view)) → Tiled f
   lent-tiled k = rw s (tiled (h .view) k)
 
-  lent-origins : Kept (paper (h .view)) → OriginsLow f (h .view .filetype .origins)
+  lent-origins : Valid (paper (h .view)) → OriginsLow f (h .view .filetype .origins)
   lent-origins k = rw s (origins-low (h .view) k)
 
-  module _ (t : Bool) (q : t ≡ handleHeld (h .mode) (h .pointer) (lentOf h f)) where
-    pub handle-judged : t ≡ handleKept h
-    unfolding handleHeld handleKept viewOf
-    handle-judged = q ∙ ap (handleHeld (h .mode) (h .pointer)) lent-same
+  module _ (t : Bool) (q : t ≡ handlePartsValid (h .mode) (h .pointer) (lentOf h f)) where
+    pub handle-judged : t ≡ handleValid h
+    unfolding handlePartsValid handleValid viewOf
+    handle-judged = q ∙ ap (handlePartsValid (h .mode) (h .pointer)) lent-same
 
     module _ (n : not t ≡ false) where
-      kept : Kept (paper (h .view))
-      kept = handle-view h (unflag-true t _ handle-judged n)
+      valid : Valid (paper (h .view))
+      valid = handle-view h (unflag-true t _ handle-judged n)
 
-      pub handle-lent : Kept (paper (lentOf h f))
-      handle-lent = rw lent-same kept
+      pub handle-lent : Valid (paper (lentOf h f))
+      handle-lent = rw lent-same valid
 
       pub handle-tiled : Tiled f
-      handle-tiled = lent-tiled kept
+      handle-tiled = lent-tiled valid
 
       pub handle-origins : OriginsLow f (h .view .filetype .origins)
-      handle-origins = lent-origins kept
+      handle-origins = lent-origins valid
 
-  module _ (len : ℕ) (r : FileRecord) (t : Bool) (q : t ≡ fileHeld (h .mode) (h .pointer) (lentOf h f) len (r .size)) where
-    pub file-judged : t ≡ fileKept h len r
-    unfolding fileHeld handleHeld fileKept handleKept viewOf
-    file-judged = q ∙ ap (λ (v : View). fileHeld (h .mode) (h .pointer) v len (r .size)) lent-same
+  module _ (len : ℕ) (r : FileRecord) (t : Bool) (q : t ≡ filePartsValid (h .mode) (h .pointer) (lentOf h f) len (r .size)) where
+    pub file-judged : t ≡ fileValid h len r
+    unfolding filePartsValid handlePartsValid fileValid handleValid viewOf
+    file-judged = q ∙ ap (λ (v : View). filePartsValid (h .mode) (h .pointer) v len (r .size)) lent-same
 
     module _ (n : not t ≡ false) where
       pub file-tiled : Tiled f
-      file-tiled = lent-tiled (file-kept-view h len r (unflag-true t _ file-judged n))
+      file-tiled = lent-tiled (file-valid-view h len r (unflag-true t _ file-judged n))
 
       pub file-origins : OriginsLow f (h .view .filetype .origins)
-      file-origins = lent-origins (file-kept-view h len r (unflag-true t _ file-judged n))
+      file-origins = lent-origins (file-valid-view h len r (unflag-true t _ file-judged n))
 
       pub file-size : r .size ≤ 1099511627776
       file-size = size-limit h len r (unflag-true t _ file-judged n)

@@ -5,4 +5,4 @@ pub mod Seeking
 pub mod Accessing
 pub mod Readable
 pub mod Writable
-pub mod Returning
+pub mod Getting

@@ -14,31 +14,31 @@ use Rattle.view.specs.declared.Offset.{Offset}
 use Rattle.view.specs.Types.{paper, whole}
 use Rattle.view.specs.Rules.{allowsReading}
 use Rattle.view.specs.Numbers.{numbersOf}
-use Rattle.ranges.specs.Parts.{accessChecked}
-use Rattle.mover.specs.Moves.{moved, readInto}
-use Rattle.mover.proofs.Reading.{moved-is}
-use Rattle.checks.specs.Parts.{handleHeld, fileHeld, accessHeld}
-use Rattle.checks.proofs.Accesses.{held-sum}
-use Rattle.access.specs.declared.ReadAnswer.{ReadAnswer}
-use Rattle.access.specs.Parts.{readHeld, ReadMade}
+use Rattle.call_range.specs.Parts.{accessChecked}
+use Rattle.move_read.specs.Moves.{moved, readInto}
+use Rattle.move_read.proofs.Reading.{moved-is}
+use Rattle.call_checks.specs.Parts.{handlePartsValid, filePartsValid, accessPartsRefusal}
+use Rattle.call_checks.proofs.Accesses.{held-sum}
+use Rattle.call_access.specs.declared.ReadOutcome.{ReadOutcome}
+use Rattle.call_access.specs.Parts.{readPartsRefusal, ReadMade}
 use Rattle.file.specs.declared.Handle.{Handle}
 use Rattle.file.specs.declared.FileRecord.{FileRecord}
-use Rattle.file.specs.declared.Moved.{Moved}
-use Rattle.file.specs.Handles.{viewOf, handleKept, fileKept, startOf, withPointer}
+use Rattle.file.specs.declared.ReadAnswer.{ReadAnswer}
+use Rattle.file.specs.Handles.{viewOf, handleValid, fileValid, pointerOffset, withPointer}
 use Rattle.file.specs.Refusals.{accessRefusal, readRefusal}
 use Rattle.file.specs.Answers.{readCount, readAtAnswer, readBuffer, readAnswer, ReadAt, ReadNext}
-use Rattle.file.specs.Parts.{refusedMove}
-use Rattle.file.proofs.Accessing.{past-kept, start-same}
+use Rattle.file.specs.Parts.{readRefused}
+use Rattle.file.proofs.Accessing.{past-valid, start-same}
 use Rattle.file.proofs.Lending.{lentOf, lent-same}
 
 -- its checks are those on the handle's parts
-read-checked : (h : Handle) (len : ℕ) (r : FileRecord) (o : ℤ) (c room : ℕ) → readHeld (h .mode) (h .pointer) (h .view) len (r .size) o c room ≡ readRefusal h len r o c room
-unfolding readRefusal accessRefusal accessHeld accessChecked fileHeld handleHeld fileKept handleKept viewOf
+read-checked : (h : Handle) (len : ℕ) (r : FileRecord) (o : ℤ) (c room : ℕ) → readPartsRefusal (h .mode) (h .pointer) (h .view) len (r .size) o c room ≡ readRefusal h len r o c room
+unfolding readRefusal accessRefusal accessPartsRefusal accessChecked filePartsValid handlePartsValid fileValid handleValid viewOf
 read-checked h len r o c room = refl
 
 -- ---- at an offset
 
-module _ (h : Handle) (file : List ℕ) (r : FileRecord) (o : ℤ) (c : ℕ) (before after : List ℕ) (f : Numbers) (s : f ≡ numbersOf (h .view)) (d : ReadAnswer) (made : ReadMade (h .mode) (h .pointer) (lentOf h f) file (r .size) o c before after d) where
+module _ (h : Handle) (file : List ℕ) (r : FileRecord) (o : ℤ) (c : ℕ) (before after : List ℕ) (f : Numbers) (s : f ≡ numbersOf (h .view)) (d : ReadOutcome) (made : ReadMade (h .mode) (h .pointer) (lentOf h f) file (r .size) o c before after d) where
   read : ReadMade (h .mode) (h .pointer) (h .view) file (r .size) o c before after d
   read = rw (lent-same h f s) at made
 
@@ -65,24 +65,24 @@ module _ (h : Handle) (file : List ℕ) (r : FileRecord) (c : ℕ) (before : Lis
   -- check 1 refuses a pointer that is no offset, whatever the offset
   past-refused : 4294967296 < h .pointer → (o : ℤ) → readRefusal h (length file) r o c (length before) ≡ 1
   unfolding readRefusal
-  past-refused l o = sym (check-no _ 1 _ 1 (past-kept h (length file) r l) refl)
+  past-refused l o = sym (check-no _ 1 _ 1 (past-valid h (length file) r l) refl)
 
-  start-answer : readAtAnswer h (length file) r (startOf h) c (length before) ≡ readAtAnswer h (length file) r (pos (h .pointer)) c (length before)
+  start-answer : readAtAnswer h (length file) r (pointerOffset h) c (length before) ≡ readAtAnswer h (length file) r (pos (h .pointer)) c (length before)
   unfolding readAtAnswer readCount granted
   start-answer = start-same h (λ (z : ℤ). readAtAnswer h (length file) r z c (length before)) (λ l a b. rw (past-refused l a, past-refused l b))
 
-  start-buffer : readBuffer h file r (startOf h) c before ≡ readBuffer h file r (pos (h .pointer)) c before
+  start-buffer : readBuffer h file r (pointerOffset h) c before ≡ readBuffer h file r (pos (h .pointer)) c before
   unfolding readBuffer granted
   start-buffer = start-same h (λ (z : ℤ). readBuffer h file r z c before) (λ l a b. rw (past-refused l a, past-refused l b))
 
   -- a read where the pointer access begins is one at the pointer
-  pub start-read : (after : List ℕ) (done : Moved) (z : ℤ) → z ≡ startOf h → ReadAt h file r z c before after done → ReadAt h file r (pos (h .pointer)) c before after done
+  pub start-read : (after : List ℕ) (done : ReadAnswer) (z : ℤ) → z ≡ pointerOffset h → ReadAt h file r z c before after done → ReadAt h file r (pos (h .pointer)) c before after done
   start-read after done z e d = record {
     answer = d .answer ∙ ap (λ (x : ℤ). readAtAnswer h (length file) r x c (length before)) e ∙ start-answer;
     buffer = d .buffer ∙ ap (λ (x : ℤ). readBuffer h file r x c before) e ∙ start-buffer;
   }
 
-  module _ (after : List ℕ) (f : Numbers) (s : f ≡ numbersOf (h .view)) (d : ReadAnswer) (b : Offset) (e : b .0 ≡ startOf h) (made : ReadMade (h .mode) (h .pointer) (lentOf h f) file (r .size) (b .0) c before after d) where
+  module _ (after : List ℕ) (f : Numbers) (s : f ≡ numbersOf (h .view)) (d : ReadOutcome) (b : Offset) (e : b .0 ≡ pointerOffset h) (made : ReadMade (h .mode) (h .pointer) (lentOf h f) file (r .size) (b .0) c before after d) where
     at-pointer : ReadAt h file r (pos (h .pointer)) c before after (record { refusal = d .refusal; count = d .count; handle = h; file = r })
     at-pointer = start-read after _ (b .0) e (at-answered h file r (b .0) c before after f s d made)
 
@@ -94,7 +94,7 @@ module _ (h : Handle) (file : List ℕ) (r : FileRecord) (c : ℕ) (before : Lis
     unfolding readAtAnswer
     count-is = ap (λ x. x .count) (at-pointer .answer)
 
-    pub next-refused : (d .refusal ≡ 0 → ⊥) → (m : Moved) → m ≡ refusedMove (d .refusal) h r → ReadNext h file r c before after m
+    pub next-refused : (d .refusal ≡ 0 → ⊥) → (m : ReadAnswer) → m ≡ readRefused (d .refusal) h r → ReadNext h file r c before after m
     unfolding readAnswer readAtAnswer
     next-refused z m q =
         let n = readRefusal h (length file) r (pos (h .pointer)) c (length before) in

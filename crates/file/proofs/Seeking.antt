@@ -15,25 +15,25 @@ use Rattle.laws.proofs.Booleans.{check-yes, check-inv, granted-yes, granted-no,
 use Rattle.view.specs.declared.Offset.{Offset}
 use Rattle.view.specs.declared.Numbers.{Numbers}
 use Rattle.view.specs.Types.{paper, whole}
-use Rattle.view.specs.Rules.{Kept}
+use Rattle.view.specs.Rules.{Valid}
 use Rattle.view.specs.End.{endOfFile}
 use Rattle.view.specs.Numbers.{numbersOf}
-use Rattle.ranges.specs.declared.Target.{Target}
-use Rattle.ranges.specs.Ranges.{targetAllowed, targetAt}
-use Rattle.ranges.specs.Parts.{seekChecked}
-use Rattle.ranges.proofs.Ranging.{zero-plus}
-use Rattle.locate.specs.Spots.{Tiled, endOn}
-use Rattle.locate.proofs.Placing.{end-bound}
-use Rattle.locate.proofs.Laid.{end-is}
-use Rattle.checks.specs.Parts.{fileHeld}
+use Rattle.call_range.specs.declared.Target.{Target}
+use Rattle.call_range.specs.Ranges.{targetAllowed, targetAt}
+use Rattle.call_range.specs.Parts.{seekChecked}
+use Rattle.call_range.proofs.Ranging.{zero-plus}
+use Rattle.view_place.specs.Spots.{Tiled, endOn}
+use Rattle.view_place.proofs.Placing.{end-bound}
+use Rattle.view_place.proofs.Laid.{end-is}
+use Rattle.call_checks.specs.Parts.{filePartsValid}
 use Rattle.file.specs.declared.Handle.{Handle}
 use Rattle.file.specs.declared.FileRecord.{FileRecord}
-use Rattle.file.specs.declared.Moved.{Moved}
-use Rattle.file.specs.Handles.{viewOf, fileKept, withPointer}
+use Rattle.file.specs.declared.SeekAnswer.{SeekAnswer}
+use Rattle.file.specs.Handles.{viewOf, fileValid, withPointer}
 use Rattle.file.specs.Refusals.{seekTarget, seekRefusal}
 use Rattle.file.specs.Answers.{seekAnswer}
-use Rattle.file.specs.Parts.{refusedMove, baseOn}
-use Rattle.file.proofs.Checking.{file-kept-view}
+use Rattle.file.specs.Parts.{seekRefused, baseOn}
+use Rattle.file.proofs.Checking.{file-valid-view}
 use Rattle.file.proofs.Lending.{lentOf, file-judged}
 
 -- ---- the base
@@ -61,15 +61,15 @@ picked true c p e z = sym (zero-plus z)
 picked false true p e z = refl
 picked false false p e z = refl
 
-target-is : (h : Handle) (r : FileRecord) (z : ℤ) (whence : ℕ) → Kept (paper (h .view)) → seekTarget h r z whence ≡ pos (baseOn (h .pointer) (numbersOf (h .view)) (h .view .filetype .origins) (r .size) whence) +ℤ z
+target-is : (h : Handle) (r : FileRecord) (z : ℤ) (whence : ℕ) → Valid (paper (h .view)) → seekTarget h r z whence ≡ pos (baseOn (h .pointer) (numbersOf (h .view)) (h .view .filetype .origins) (r .size) whence) +ℤ z
 unfolding seekTarget baseOn viewOf
 target-is h r z whence k = rw (end-is (h .view) k (r .size)) (picked (eqb whence 0) (eqb whence 1) (h .pointer) (endOfFile (paper (h .view)) (r .size)) z)
 
-module _ (h : Handle) (len : ℕ) (r : FileRecord) (z : ℤ) (whence : ℕ) (f : Numbers) (s : f ≡ numbersOf (h .view)) (t : Bool) (q : t ≡ fileHeld (h .mode) (h .pointer) (lentOf h f) len (r .size)) where
-  k : t ≡ fileKept h len r
+module _ (h : Handle) (len : ℕ) (r : FileRecord) (z : ℤ) (whence : ℕ) (f : Numbers) (s : f ≡ numbersOf (h .view)) (t : Bool) (q : t ≡ filePartsValid (h .mode) (h .pointer) (lentOf h f) len (r .size)) where
+  k : t ≡ fileValid h len r
   k = file-judged h f s len r t q
 
-  pub seek-handle : not t ≡ true → (m : Moved) → m ≡ refusedMove 1 h r → m ≡ seekAnswer h len r z whence
+  pub seek-handle : not t ≡ true → (m : SeekAnswer) → m ≡ seekRefused 1 h r → m ≡ seekAnswer h len r z whence
   unfolding seekAnswer seekRefusal check granted
   seek-handle n m e = rw (unflag-false t _ k n) e
 
@@ -78,7 +78,7 @@ module _ (h : Handle) (len : ℕ) (r : FileRecord) (z : ℤ) (whence : ℕ) (f :
     aims =
         ap (λ (x : ℤ). pos base +ℤ x) (toZ-ofZ w)
         ∙ ap (λ (x : ℕ). pos x +ℤ z) (b ∙ ap (λ (x : Numbers). baseOn (h .pointer) x (h .view .filetype .origins) (r .size) whence) s)
-        ∙ sym (target-is h r z whence (file-kept-view h len r (unflag-true t _ k n)))
+        ∙ sym (target-is h r z whence (file-valid-view h len r (unflag-true t _ k n)))
 
     goes : g ≡ targetAt (seekTarget h r z whence)
     goes = a ∙ ap targetAt aims
@@ -91,7 +91,7 @@ module _ (h : Handle) (len : ℕ) (r : FileRecord) (z : ℤ) (whence : ℕ) (f :
     unfolding seekChecked seekRefusal
     refusal-is = check-yes _ 1 _ m (unflag-true t _ k n) (c ∙ ap (λ (x : Bool). check (leb whence 2) 15 (check x 12 0)) allowed-is)
 
-    pub seek-refused : (m ≡ 0 → ⊥) → (d : Moved) → d ≡ refusedMove m h r → d ≡ seekAnswer h len r z whence
+    pub seek-refused : (m ≡ 0 → ⊥) → (d : SeekAnswer) → d ≡ seekRefused m h r → d ≡ seekAnswer h len r z whence
     unfolding seekAnswer
     seek-refused y d e =
         let v = granted-no _ (withPointer h (whole (seekTarget h r z whence))) h (λ x. y (refusal-is ∙ x)) in

@@ -18,27 +18,27 @@ use Rattle.view.specs.Types.{paper, whole}
 use Rattle.view.specs.Rules.{allowsWriting}
 use Rattle.view.specs.Places.{dataSize}
 use Rattle.view.specs.Numbers.{numbersOf}
-use Rattle.ranges.specs.Ranges.{accessAllowed}
-use Rattle.ranges.proofs.Ranging.{access-sum}
-use Rattle.mover.specs.Moves.{writeEnd, newSize, written}
-use Rattle.checks.specs.Parts.{handleHeld, fileHeld}
-use Rattle.access.specs.declared.WriteAnswer.{WriteAnswer}
-use Rattle.access.specs.Parts.{writeHeld, WriteMade}
+use Rattle.call_range.specs.Ranges.{accessAllowed}
+use Rattle.call_range.proofs.Ranging.{access-sum}
+use Rattle.move_read.specs.Moves.{writeEnd, newSize, written}
+use Rattle.call_checks.specs.Parts.{handlePartsValid, filePartsValid}
+use Rattle.call_access.specs.declared.WriteOutcome.{WriteOutcome}
+use Rattle.call_access.specs.Parts.{writePartsRefusal, WriteMade}
 use Rattle.file.specs.declared.Handle.{Handle}
 use Rattle.file.specs.declared.FileRecord.{FileRecord}
-use Rattle.file.specs.declared.Moved.{Moved}
-use Rattle.file.specs.Handles.{viewOf, handleKept, fileKept, startOf, withPointer, withSize}
+use Rattle.file.specs.declared.WriteAnswer.{WriteAnswer}
+use Rattle.file.specs.Handles.{viewOf, handleValid, fileValid, pointerOffset, withPointer, withSize}
 use Rattle.file.specs.Refusals.{accessRefusal, writeRefusal}
 use Rattle.file.specs.Answers.{writeAtAnswer, writtenFile, writeAnswer, WriteAt, WriteNext}
-use Rattle.file.specs.Parts.{refusedMove}
-use Rattle.file.proofs.Accessing.{past-kept, start-same}
+use Rattle.file.specs.Parts.{writeRefused}
+use Rattle.file.proofs.Accessing.{past-valid, start-same}
 use Rattle.file.proofs.Lending.{lentOf, lent-same}
 
 -- ---- the checks
 
 -- what a write that none of them refuses has passed
 pub record Checked (h : Handle) (len : ℕ) (r : FileRecord) (o : ℤ) (c room : ℕ) : Type 0 where
-  pub kept : fileKept h len r ≡ true
+  pub valid : fileValid h len r ≡ true
   pub writes : allowsWriting (h .mode) ≡ true
   pub range : accessAllowed o c ≡ true
   pub long : c * dataSize (viewOf h) ≤ room
@@ -52,16 +52,16 @@ checked h len r o c room z =
     let c12 = check-inv _ 12 _ (omega arith) (c11 .1) in
     let c13 = check-inv _ 13 _ (omega arith) (c12 .1) in
     let c14 = check-inv _ 14 _ (omega arith) (c13 .1) in
-    record { kept = c1 .0; writes = c11 .0; range = c12 .0; long = leb-true _ _ (c13 .0); ends = leb-true _ _ (c14 .0) }
+    record { valid = c1 .0; writes = c11 .0; range = c12 .0; long = leb-true _ _ (c13 .0); ends = leb-true _ _ (c14 .0) }
 
 -- its checks are those on the handle's parts
-write-checked : (h : Handle) (len : ℕ) (r : FileRecord) (o : ℤ) (c room : ℕ) → writeHeld (h .mode) (h .pointer) (h .view) len (r .size) o c room ≡ writeRefusal h len r o c room
-unfolding writeHeld writeRefusal accessRefusal fileHeld handleHeld fileKept handleKept viewOf
+write-checked : (h : Handle) (len : ℕ) (r : FileRecord) (o : ℤ) (c room : ℕ) → writePartsRefusal (h .mode) (h .pointer) (h .view) len (r .size) o c room ≡ writeRefusal h len r o c room
+unfolding writePartsRefusal writeRefusal accessRefusal filePartsValid handlePartsValid fileValid handleValid viewOf
 write-checked h len r o c room = refl
 
 -- ---- at an offset
 
-module _ (h : Handle) (file after : List ℕ) (r : FileRecord) (o : ℤ) (c : ℕ) (buf : List ℕ) (f : Numbers) (s : f ≡ numbersOf (h .view)) (d : WriteAnswer) (made : WriteMade (h .mode) (h .pointer) (lentOf h f) file after (r .size) o c buf d) where
+module _ (h : Handle) (file after : List ℕ) (r : FileRecord) (o : ℤ) (c : ℕ) (buf : List ℕ) (f : Numbers) (s : f ≡ numbersOf (h .view)) (d : WriteOutcome) (made : WriteMade (h .mode) (h .pointer) (lentOf h f) file after (r .size) o c buf d) where
   write : WriteMade (h .mode) (h .pointer) (h .view) file after (r .size) o c buf d
   write = rw (lent-same h f s) at made
 
@@ -97,17 +97,17 @@ module _ (h : Handle) (file : List ℕ) (r : FileRecord) (c : ℕ) (buf : List �
   -- check 1 refuses a pointer that is no offset, whatever the offset
   past-refused : 4294967296 < h .pointer → (o : ℤ) → writeRefusal h (length file) r o c (length buf) ≡ 1
   unfolding writeRefusal
-  past-refused l o = sym (check-no _ 1 _ 1 (past-kept h (length file) r l) refl)
+  past-refused l o = sym (check-no _ 1 _ 1 (past-valid h (length file) r l) refl)
 
-  start-answer : writeAtAnswer h (length file) r (startOf h) c (length buf) ≡ writeAtAnswer h (length file) r (pos (h .pointer)) c (length buf)
+  start-answer : writeAtAnswer h (length file) r (pointerOffset h) c (length buf) ≡ writeAtAnswer h (length file) r (pos (h .pointer)) c (length buf)
   unfolding writeAtAnswer granted
   start-answer = start-same h (λ (z : ℤ). writeAtAnswer h (length file) r z c (length buf)) (λ l a b. rw (past-refused l a, past-refused l b))
 
-  start-bytes : writtenFile h file r (startOf h) c buf ≡ writtenFile h file r (pos (h .pointer)) c buf
+  start-bytes : writtenFile h file r (pointerOffset h) c buf ≡ writtenFile h file r (pos (h .pointer)) c buf
   unfolding writtenFile granted
   start-bytes = start-same h (λ (z : ℤ). writtenFile h file r z c buf) (λ l a b. rw (past-refused l a, past-refused l b))
 
-  module _ (after : List ℕ) (f : Numbers) (s : f ≡ numbersOf (h .view)) (d : WriteAnswer) (b : Offset) (e : b .0 ≡ startOf h) (made : WriteMade (h .mode) (h .pointer) (lentOf h f) file after (r .size) (b .0) c buf d) where
+  module _ (after : List ℕ) (f : Numbers) (s : f ≡ numbersOf (h .view)) (d : WriteOutcome) (b : Offset) (e : b .0 ≡ pointerOffset h) (made : WriteMade (h .mode) (h .pointer) (lentOf h f) file after (r .size) (b .0) c buf d) where
     at : WriteAt h file after r (b .0) c buf (record { refusal = d .refusal; count = d .count; handle = h; file = record { size = d .size } })
     at = at-answered h file after r (b .0) c buf f s d made
 
@@ -121,7 +121,7 @@ module _ (h : Handle) (file : List ℕ) (r : FileRecord) (c : ℕ) (buf : List �
     unfolding writeAtAnswer
     refusal-is = ap (λ x. x .refusal) answer-is
 
-    pub next-refused : (d .refusal ≡ 0 → ⊥) → (m : Moved) → m ≡ refusedMove (d .refusal) h r → WriteNext h file after r c buf m
+    pub next-refused : (d .refusal ≡ 0 → ⊥) → (m : WriteAnswer) → m ≡ writeRefused (d .refusal) h r → WriteNext h file after r c buf m
     unfolding writeAnswer writeAtAnswer
     next-refused z m q =
         let a = writeAtAnswer h (length file) r (pos (h .pointer)) c (length buf) in

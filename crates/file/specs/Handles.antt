@@ -24,16 +24,16 @@ unfoldable pub modeGot : ℕ → ℕ
 modeGot mode = cond (eqb mode 0) 3 mode
 
 -- check 1 where the file is not looked at: the mode is 1 to 3, and pointer and view break no rule
-unfoldable pub handleKept : Handle → Bool
-handleKept h = also (modeAllowed (h .mode)) (also (pointerAllowed (h .pointer)) (accepted (h .mode) (viewOf h)))
+unfoldable pub handleValid : Handle → Bool
+handleValid h = also (modeAllowed (h .mode)) (also (pointerAllowed (h .pointer)) (accepted (h .mode) (viewOf h)))
 
 -- check 1 where it is: nor does the file, of this length, break its limits
-unfoldable pub fileKept : Handle → ℕ → FileRecord → Bool
-fileKept h len r = also (handleKept h) (fileAllowed len (r .size))
+unfoldable pub fileValid : Handle → ℕ → FileRecord → Bool
+fileValid h len r = also (handleValid h) (fileAllowed len (r .size))
 
 -- the offset at which a pointer access begins; 0 for a pointer that check 1 refuses
-unfoldable pub startOf : Handle → ℤ
-startOf h = cond (pointerAllowed (h .pointer)) (pos (h .pointer)) (pos 0)
+unfoldable pub pointerOffset : Handle → ℤ
+pointerOffset h = cond (pointerAllowed (h .pointer)) (pos (h .pointer)) (pos 0)
 
 -- the handle with another pointer, and the one after a successful set: the new view, pointer 0
 unfoldable pub withPointer : Handle → ℕ → Handle

@@ -4,19 +4,31 @@ use mathlib.Core.Bool.{cond}
 use mathlib.Core.List.{List}
 use lib.Dec.{eqb}
 use Rattle.view.specs.declared.Numbers.{Numbers}
-use Rattle.locate.specs.Spots.{endOn}
+use Rattle.view_place.specs.Spots.{endOn}
 use Rattle.file.specs.declared.Handle.{Handle}
 use Rattle.file.specs.declared.FileRecord.{FileRecord}
-use Rattle.file.specs.declared.Opened.{Opened}
-use Rattle.file.specs.declared.Moved.{Moved}
+use Rattle.file.specs.declared.OpenAnswer.{OpenAnswer}
+use Rattle.file.specs.declared.SetViewAnswer.{SetViewAnswer}
+use Rattle.file.specs.declared.SeekAnswer.{SeekAnswer}
+use Rattle.file.specs.declared.ReadAnswer.{ReadAnswer}
+use Rattle.file.specs.declared.WriteAnswer.{WriteAnswer}
 
--- the answer of an open or a set
-abbrev pub openedAs : ℕ → Handle → Opened
-openedAs n h = record { refusal = n; count = 0; handle = h }
+-- the answers of an open and of a set
+abbrev pub openAs : ℕ → Handle → OpenAnswer
+openAs n h = record { refusal = n; count = 0; handle = h }
 
--- a refused call that was given a file
-abbrev pub refusedMove : ℕ → Handle → FileRecord → Moved
-refusedMove n h r = record { refusal = n; count = 0; handle = h; file = r }
+abbrev pub setViewAs : ℕ → Handle → SetViewAnswer
+setViewAs n h = record { refusal = n; count = 0; handle = h }
+
+-- a refused seek, read or write
+abbrev pub seekRefused : ℕ → Handle → FileRecord → SeekAnswer
+seekRefused n h r = record { refusal = n; count = 0; handle = h; file = r }
+
+abbrev pub readRefused : ℕ → Handle → FileRecord → ReadAnswer
+readRefused n h r = record { refusal = n; count = 0; handle = h; file = r }
+
+abbrev pub writeRefused : ℕ → Handle → FileRecord → WriteAnswer
+writeRefused n h r = record { refusal = n; count = 0; handle = h; file = r }
 
 -- what a seek adds its offset to: nothing, the pointer or the end of file
 unfoldable pub baseOn : ℕ → Numbers → List ℕ → ℕ → ℕ → ℕ

@@ -10,11 +10,11 @@ use Rattle.view.specs.Types.{PaperView, entries, whole}
 use Rattle.view.specs.Rules.{setRefusal, allowsReading, allowsWriting}
 use Rattle.view.specs.Places.{dataSize}
 use Rattle.view.specs.End.{endOfFile}
-use Rattle.ranges.specs.Ranges.{targetAllowed, accessAllowed}
-use Rattle.mover.specs.Moves.{writeEnd}
+use Rattle.call_range.specs.Ranges.{targetAllowed, accessAllowed}
+use Rattle.move_read.specs.Moves.{writeEnd}
 use Rattle.file.specs.declared.Handle.{Handle}
 use Rattle.file.specs.declared.FileRecord.{FileRecord}
-use Rattle.file.specs.Handles.{viewOf, handleKept, fileKept}
+use Rattle.file.specs.Handles.{viewOf, handleValid, fileValid}
 
 -- open: 16 only
 unfoldable pub openRefusal : ℕ → ℕ
@@ -22,27 +22,27 @@ openRefusal mode = check (leb mode 3) 16 0
 
 -- set: 1 to 10, the file not being looked at
 unfoldable pub setViewRefusal : Handle → List ℕ → PaperView → ℕ
-setViewRefusal h representation v = check (handleKept h) 1 (setRefusal (h .mode) representation v)
+setViewRefusal h representation v = check (handleValid h) 1 (setRefusal (h .mode) representation v)
 
 -- giving back: 1, 13; each list against its own entry count
-unfoldable pub giveBackRefusal : Handle → ℕ → ℕ → ℕ → ℕ → ℕ
-giveBackRefusal h etypeWidths etypeDisplacements filetypeWidths filetypeDisplacements =
-    check (handleKept h) 1
+unfoldable pub getViewRefusal : Handle → ℕ → ℕ → ℕ → ℕ → ℕ
+getViewRefusal h etypeWidths etypeDisplacements filetypeWidths filetypeDisplacements =
+    check (handleValid h) 1
     (check (also (leb (entries (viewOf h .etype)) etypeWidths) (also (leb (entries (viewOf h .etype)) etypeDisplacements)
     (also (leb (entries (viewOf h .filetype)) filetypeWidths) (leb (entries (viewOf h .filetype)) filetypeDisplacements)))) 13
     0)
 
 -- place: 1, 12
-unfoldable pub placeRefusal : Handle → ℤ → ℕ
-placeRefusal h o = check (handleKept h) 1 (check (offsetAllowed o) 12 0)
+unfoldable pub byteOffsetRefusal : Handle → ℤ → ℕ
+byteOffsetRefusal h o = check (handleValid h) 1 (check (offsetAllowed o) 12 0)
 
 -- reverse: 1, 11
 unfoldable pub reverseRefusal : Handle → ℕ
-reverseRefusal h = check (handleKept h) 1 (check (allowsWriting (h .mode)) 11 0)
+reverseRefusal h = check (handleValid h) 1 (check (allowsWriting (h .mode)) 11 0)
 
 -- end: 1
 unfoldable pub endRefusal : Handle → ℕ → FileRecord → ℕ
-endRefusal h len r = check (fileKept h len r) 1 0
+endRefusal h len r = check (fileValid h len r) 1 0
 
 -- seek's target: whence 0 sets, 1 adds to the pointer, 2 adds to the end of file
 unfoldable pub seekTarget : Handle → FileRecord → ℤ → ℕ → ℤ
@@ -54,7 +54,7 @@ seekTarget h r o whence =
 -- seek: 1, 15, 12; the file is looked at for every whence
 unfoldable pub seekRefusal : Handle → ℕ → FileRecord → ℤ → ℕ → ℕ
 seekRefusal h len r o whence =
-    check (fileKept h len r) 1
+    check (fileValid h len r) 1
     (check (leb whence 2) 15
     (check (targetAllowed (seekTarget h r o whence)) 12
     0))
@@ -69,7 +69,7 @@ accessRefusal h o c buffer later =
 -- read: 1, 11, 12, 13
 unfoldable pub readRefusal : Handle → ℕ → FileRecord → ℤ → ℕ → ℕ → ℕ
 readRefusal h len r o c buffer =
-    check (fileKept h len r) 1
+    check (fileValid h len r) 1
     (check (allowsReading (h .mode)) 11
     (accessRefusal h o c buffer
     0))
@@ -77,7 +77,7 @@ readRefusal h len r o c buffer =
 -- write: 1, 11, 12, 13, 14; the highest byte lies below the file length
 unfoldable pub writeRefusal : Handle → ℕ → FileRecord → ℤ → ℕ → ℕ → ℕ
 writeRefusal h len r o c buffer =
-    check (fileKept h len r) 1
+    check (fileValid h len r) 1
     (check (allowsWriting (h .mode)) 11
     (accessRefusal h o c buffer
     (check (leb (writeEnd (viewOf h) (whole o) c) len) 14

@@ -1,4 +1,4 @@
-// The file handle and its calls: open, setting and giving back a view, place, reverse lookup, end of file, seek, and reading and writing at an explicit offset or at the pointer.
+// The file handle and its calls: open, setting and getting a view, byte offset, reverse lookup, end of file, seek, and reading and writing at an explicit offset or at the pointer.
 // A call takes the handle by value and hands it back with the answer; a file is a lent run of bytes with a record by value.
 // What each call answers, and what it leaves in everything lent, is defined in specs/.
 ghost use mathlib.Core.Path.{_≡_};
@@ -6,12 +6,12 @@ ghost use Prim.Native.Nat.{_≤_};
 ghost use lib.ListN.{length};
 ghost use Rattle.view.specs.Limits.{maxFileLength};
 ghost use Rattle.view.specs.Types.{paper};
-ghost use Rattle.view.specs.Rules.{Kept};
-ghost use Rattle.locate.specs.Spots.{Tiled, OriginsLow};
-ghost use Rattle.lent.specs.Lists.{lentType, lentView};
-ghost use Rattle.file.specs.Handles.{freshHandle, modeGot, startOf};
-ghost use Rattle.file.specs.Answers.{openAnswer, setViewAnswer, givenAs, GaveBack, placeAnswer, reverseAnswer, endAnswer, seekAnswer, ReadAt, ReadNext, WriteAt, WriteNext};
-ghost use Rattle.file.specs.Parts.{openedAs, refusedMove, baseOn};
+ghost use Rattle.view.specs.Rules.{Valid};
+ghost use Rattle.view_place.specs.Spots.{Tiled, OriginsLow};
+ghost use Rattle.rule_lists.specs.Lists.{typeOfLists, viewOfTypes};
+ghost use Rattle.file.specs.Handles.{freshHandle, modeGot, pointerOffset};
+ghost use Rattle.file.specs.Answers.{openAnswer, setViewAnswer, getViewAs, GotView, byteOffsetAnswer, reverseAnswer, endAnswer, seekAnswer, ReadAt, ReadNext, WriteAt, WriteNext};
+ghost use Rattle.file.specs.Parts.{openAs, setViewAs, seekRefused, readRefused, writeRefused, baseOn};
 use view::BytePos;
 use view::Numbers;
 use view::Offset;
@@ -27,8 +27,8 @@ pub struct Handle {
 }
 
 impl Handle {
-    // An open that names no mode.
-    pub const MODE_UNNAMED: u64 = 0;
+    // The modes of an open; one that names none has 0.
+    pub const MODE_UNNAMED: u64 = View::MODE_UNNAMED;
 
     pub const MODE_READING: u64 = View::MODE_READING;
 
@@ -40,26 +40,45 @@ impl Handle {
 
     pub const MAX_FILE_LENGTH: u64 = View::MAX_FILE_SIZE;
 
+    // What a seek adds its offset to: nothing, the pointer or the end of file.
     pub const SEEK_SET: u64 = 0;
 
     pub const SEEK_CURRENT: u64 = 1;
 
-    pub const SEEK_END: u64 = ranges::LAST_WHENCE;
+    pub const SEEK_END: u64 = call_range::LAST_WHENCE;
 
-    // Document 01's refusal numbers of the calls; those of a set, 2 to 10, stand with their checks.
-    pub const REFUSED_HANDLE: u64 = checks::HANDLE;
+    // Document 01's refusal numbers, in its order.
+    pub const REFUSED_HANDLE: u64 = View::REFUSED_HANDLE;
 
-    pub const REFUSED_MODE: u64 = ranges::MODE;
+    pub const REFUSED_REPRESENTATION: u64 = View::REFUSED_REPRESENTATION;
 
-    pub const REFUSED_RANGE: u64 = ranges::RANGE;
+    pub const REFUSED_DISPLACEMENT: u64 = View::REFUSED_DISPLACEMENT;
 
-    pub const REFUSED_ROOM: u64 = ranges::ROOM;
+    pub const REFUSED_ENTRY_COUNT: u64 = View::REFUSED_ENTRY_COUNT;
 
-    pub const REFUSED_LENGTH: u64 = access::LENGTH;
+    pub const REFUSED_EXTENT: u64 = View::REFUSED_EXTENT;
 
-    pub const REFUSED_WHENCE: u64 = ranges::WHENCE;
+    pub const REFUSED_ENTRY: u64 = View::REFUSED_ENTRY;
 
-    pub const REFUSED_OPEN: u64 = 16;
+    pub const REFUSED_ORDER: u64 = View::REFUSED_ORDER;
+
+    pub const REFUSED_GROUPS: u64 = View::REFUSED_GROUPS;
+
+    pub const REFUSED_HOLE: u64 = View::REFUSED_HOLE;
+
+    pub const REFUSED_OVERLAP: u64 = View::REFUSED_OVERLAP;
+
+    pub const REFUSED_MODE: u64 = View::REFUSED_MODE;
+
+    pub const REFUSED_RANGE: u64 = View::REFUSED_RANGE;
+
+    pub const REFUSED_ROOM: u64 = View::REFUSED_ROOM;
+
+    pub const REFUSED_LENGTH: u64 = View::REFUSED_LENGTH;
+
+    pub const REFUSED_WHENCE: u64 = View::REFUSED_WHENCE;
+
+    pub const REFUSED_OPEN_MODE: u64 = View::REFUSED_OPEN_MODE;
 }
 
 // What is recorded of a file beside its bytes: its size.
@@ -75,10 +94,16 @@ impl FileRecord {
     }
 }
 
-// The answers. Each has the refusal number, 0 if granted, the count and the handle.
+// The answers, one type for each call: the refusal number, 0 if granted, the count, the handle, the file record where the call has one, and what else the call answers.
+// The two reads share a type, and so do the two writes.
 
-// Open, and setting a view.
-pub struct Opened {
+pub struct OpenAnswer {
+    pub refusal: u64,
+    pub count: u64,
+    pub handle: Handle,
+}
+
+pub struct SetViewAnswer {
     pub refusal: u64,
     pub count: u64,
     pub handle: Handle,
@@ -90,8 +115,8 @@ pub struct TypeShape {
     pub extent: u64,
 }
 
-// Giving the view back.
-pub struct ViewGiven {
+// Of document 01's "giving back".
+pub struct GetViewAnswer {
     pub refusal: u64,
     pub count: u64,
     pub handle: Handle,
@@ -100,24 +125,24 @@ pub struct ViewGiven {
     pub filetype: TypeShape,
 }
 
-// The place query.
-pub struct Placed {
+// Of document 01's "place query".
+pub struct ByteOffsetAnswer {
     pub refusal: u64,
     pub count: u64,
     pub handle: Handle,
     pub place: BytePos,
 }
 
-// The reverse lookup.
-pub struct Owned {
+// Of document 01's "reverse lookup".
+pub struct ReverseAnswer {
     pub refusal: u64,
     pub count: u64,
     pub handle: Handle,
     pub owner: Owner,
 }
 
-// End of file.
-pub struct Ended {
+// Of document 01's "end of file".
+pub struct EndAnswer {
     pub refusal: u64,
     pub count: u64,
     pub handle: Handle,
@@ -125,30 +150,76 @@ pub struct Ended {
     pub end: Offset,
 }
 
-// Seek, reads and writes.
-pub struct Moved {
+pub struct SeekAnswer {
     pub refusal: u64,
     pub count: u64,
     pub handle: Handle,
     pub file: FileRecord,
 }
 
-// The answer of an open or a set.
-fn answered(refusal: u64, handle: Handle) -> Opened
-    ensures { λ r. ⌜ r ≡ openedAs refusal handle ⌝ }
+pub struct ReadAnswer {
+    pub refusal: u64,
+    pub count: u64,
+    pub handle: Handle,
+    pub file: FileRecord,
+}
+
+pub struct WriteAnswer {
+    pub refusal: u64,
+    pub count: u64,
+    pub handle: Handle,
+    pub file: FileRecord,
+}
+
+fn open_answer(refusal: u64, handle: Handle) -> OpenAnswer
+    ensures { λ r. ⌜ r ≡ openAs refusal handle ⌝ }
 {
-    Opened {
+    OpenAnswer {
         refusal: refusal,
         count: 0,
         handle: handle,
     }
 }
 
-// A refused call that was given a file: handle and record come back as they came.
-fn refused(refusal: u64, handle: Handle, rec: FileRecord) -> Moved
-    ensures { λ r. ⌜ r ≡ refusedMove refusal handle rec ⌝ }
+fn set_view_answer(refusal: u64, handle: Handle) -> SetViewAnswer
+    ensures { λ r. ⌜ r ≡ setViewAs refusal handle ⌝ }
 {
-    Moved {
+    SetViewAnswer {
+        refusal: refusal,
+        count: 0,
+        handle: handle,
+    }
+}
+
+// A refused seek: handle and record come back as they came.
+fn seek_refused(refusal: u64, handle: Handle, rec: FileRecord) -> SeekAnswer
+    ensures { λ r. ⌜ r ≡ seekRefused refusal handle rec ⌝ }
+{
+    SeekAnswer {
+        refusal: refusal,
+        count: 0,
+        handle: handle,
+        file: rec,
+    }
+}
+
+// A refused read: handle and record come back as they came.
+fn read_refused(refusal: u64, handle: Handle, rec: FileRecord) -> ReadAnswer
+    ensures { λ r. ⌜ r ≡ readRefused refusal handle rec ⌝ }
+{
+    ReadAnswer {
+        refusal: refusal,
+        count: 0,
+        handle: handle,
+        file: rec,
+    }
+}
+
+// A refused write: handle and record come back as they came.
+fn write_refused(refusal: u64, handle: Handle, rec: FileRecord) -> WriteAnswer
+    ensures { λ r. ⌜ r ≡ writeRefused refusal handle rec ⌝ }
+{
+    WriteAnswer {
         refusal: refusal,
         count: 0,
         handle: handle,
@@ -167,12 +238,12 @@ fn shape(entries: u64, extent: u64) -> TypeShape
 }
 
 // The answer of giving back: both entry counts, both extents and the displacement of the handle's view, and zeros where it is refused.
-fn given_answer(refusal: u64, handle: Handle) -> ViewGiven
-    requires { ⌜ (refusal ≡ 0 → Kept (paper (handle .view))) ⌝ }
-    ensures { λ r. ⌜ r ≡ givenAs refusal handle ⌝ }
+fn get_view_answer(refusal: u64, handle: Handle) -> GetViewAnswer
+    requires { ⌜ (refusal ≡ 0 → Valid (paper (handle .view))) ⌝ }
+    ensures { λ r. ⌜ r ≡ getViewAs refusal handle ⌝ }
 {
     if refusal != 0 {
-        return ViewGiven {
+        return GetViewAnswer {
             refusal: refusal,
             count: 0,
             handle: handle,
@@ -183,7 +254,7 @@ fn given_answer(refusal: u64, handle: Handle) -> ViewGiven
     }
     let entries = handle.view.etype.entries;
     let all = handle.view.filetype.instances * entries;
-    ViewGiven {
+    GetViewAnswer {
         refusal: 0,
         count: 0,
         handle: handle,
@@ -215,7 +286,7 @@ fn seek_base(pointer: u64, v: Numbers, origins: &PerInstance, size: u64, whence:
     if whence == Handle::SEEK_CURRENT {
         return pointer;
     }
-    let end = locate::end_of(v, origins, size);
+    let end = view_place::end_of(v, origins, size);
     view::natural(end.0)
 }
 
@@ -233,13 +304,13 @@ impl Handle {
     }
 
     // Opens: the default view, pointer 0 and the mode got. A refused open's handle has mode 0.
-    pub fn open(mode: u64) -> Opened
+    pub fn open(mode: u64) -> OpenAnswer
         ensures { λ r. ⌜ r ≡ openAnswer mode ⌝ }
     {
         if Handle::MODE_BOTH < mode {
-            return answered(Handle::REFUSED_OPEN, Handle::fresh(0));
+            return open_answer(Handle::REFUSED_OPEN_MODE, Handle::fresh(0));
         }
-        answered(0, Handle::fresh(mode_got(mode)))
+        open_answer(0, Handle::fresh(mode_got(mode)))
     }
 
     // Sets the view that the lent lists describe, and the pointer to 0: widths, displacements and extent of the etype (ew, ed, ex) and of the filetype (fw, fd, fx).
@@ -253,43 +324,50 @@ impl Handle {
         fw: &[u64],
         fd: &[i64],
         fx: i64,
-    ) -> Opened
-        ensures { λ r. ⌜ r ≡ setViewAnswer self (now (representation .entry)) (lentView displacement (lentType (now (ew .entry)) (now (ed .entry)) ex) (lentType (now (fw .entry)) (now (fd .entry)) fx)) ⌝ }
+    ) -> SetViewAnswer
+        ensures { λ r. ⌜ r ≡ setViewAnswer self (now (representation .entry)) (viewOfTypes displacement (typeOfLists (now (ew .entry)) (now (ed .entry)) ex) (typeOfLists (now (fw .entry)) (now (fd .entry)) fx)) ⌝ }
     {
         let v = self.view.numbers();
         let widths = &self.view.etype.widths;
         let displacements = &self.view.etype.displacements;
         let origins = &self.view.filetype.origins;
-        let kept = checks::handle_kept(self.mode, self.pointer, v, widths, displacements, origins);
-        if !kept {
-            return answered(Handle::REFUSED_HANDLE, self);
+        let valid = call_checks::handle_valid(
+            self.mode,
+            self.pointer,
+            v,
+            widths,
+            displacements,
+            origins,
+        );
+        if !valid {
+            return set_view_answer(Handle::REFUSED_HANDLE, self);
         }
         let mode = self.mode;
-        let made = accept::accept(mode, representation, displacement, ew, ed, ex, fw, fd, fx);
+        let made = rule_set::accept(mode, representation, displacement, ew, ed, ex, fw, fd, fx);
         if made.refusal != 0 {
-            return answered(made.refusal, self);
+            return set_view_answer(made.refusal, self);
         }
         let view = made.view;
         self.view = view;
         self.pointer = 0;
-        answered(0, self)
+        set_view_answer(0, self)
     }
 
-    // Gives the view back: its typemaps at the front of the four lists, both entry counts, both extents and the displacement.
-    pub fn give_back(
+    // Document 01's giving back: the view's typemaps at the front of the four lists, both entry counts, both extents and the displacement.
+    pub fn get_view(
         self,
         ew: &mut [u64],
         ed: &mut [i64],
         fw: &mut [u64],
         fd: &mut [i64],
-    ) -> ViewGiven
-        ensures { λ r. ⌜ GaveBack self (now (ew .entry)) (now (ew .exit)) (now (ed .entry)) (now (ed .exit)) (now (fw .entry)) (now (fw .exit)) (now (fd .entry)) (now (fd .exit)) r ⌝ }
+    ) -> GetViewAnswer
+        ensures { λ r. ⌜ GotView self (now (ew .entry)) (now (ew .exit)) (now (ed .entry)) (now (ed .exit)) (now (fw .entry)) (now (fw .exit)) (now (fd .entry)) (now (fd .exit)) r ⌝ }
     {
         let v = self.view.numbers();
         let widths = &self.view.etype.widths;
         let displacements = &self.view.etype.displacements;
         let origins = &self.view.filetype.origins;
-        let refusal = checks::give_back_refusal(
+        let refusal = call_checks::get_view_refusal(
             self.mode,
             self.pointer,
             v,
@@ -302,39 +380,46 @@ impl Handle {
             fd.len() as u64,
         );
         if refusal != 0 {
-            return given_answer(refusal, self);
+            return get_view_answer(refusal, self);
         }
-        given::give_back(v, widths, displacements, origins, ew, ed, fw, fd);
-        given_answer(refusal, self)
+        view_typemap::fill_lists(v, widths, displacements, origins, ew, ed, fw, fd);
+        get_view_answer(refusal, self)
     }
 
-    // The byte at which the etype at an offset begins.
-    pub fn place(self, o: Offset) -> Placed
-        ensures { λ r. ⌜ r ≡ placeAnswer self (o .0) ⌝ }
+    // Document 01's place query: the byte at which the etype at an offset begins.
+    pub fn byte_offset(self, o: Offset) -> ByteOffsetAnswer
+        ensures { λ r. ⌜ r ≡ byteOffsetAnswer self (o .0) ⌝ }
     {
         let v = self.view.numbers();
         let widths = &self.view.etype.widths;
         let displacements = &self.view.etype.displacements;
         let origins = &self.view.filetype.origins;
-        let kept = checks::handle_kept(self.mode, self.pointer, v, widths, displacements, origins);
-        if !kept {
-            return Placed {
+        let valid = call_checks::handle_valid(
+            self.mode,
+            self.pointer,
+            v,
+            widths,
+            displacements,
+            origins,
+        );
+        if !valid {
+            return ByteOffsetAnswer {
                 refusal: Handle::REFUSED_HANDLE,
                 count: 0,
                 handle: self,
                 place: BytePos(0),
             };
         }
-        if !ranges::offset_allowed(o) {
-            return Placed {
+        if !call_range::offset_allowed(o) {
+            return ByteOffsetAnswer {
                 refusal: Handle::REFUSED_RANGE,
                 count: 0,
                 handle: self,
                 place: BytePos(0),
             };
         }
-        let place = locate::place_of(v, &self.view.filetype.origins, o);
-        Placed {
+        let place = view_place::place_of(v, &self.view.filetype.origins, o);
+        ByteOffsetAnswer {
             refusal: 0,
             count: 0,
             handle: self,
@@ -342,33 +427,40 @@ impl Handle {
         }
     }
 
-    // The pair of offset and index in the packed data that a file byte belongs to, or none; the byte is any number, past the file's length too.
-    pub fn reverse(self, byte: BytePos) -> Owned
+    // Document 01's reverse lookup: the pair of offset and index in the packed data that a file byte belongs to, or none; the byte is any number, past the file's length too.
+    pub fn reverse(self, byte: BytePos) -> ReverseAnswer
         ensures { λ r. ⌜ r ≡ reverseAnswer self (byte .0) ⌝ }
     {
         let v = self.view.numbers();
         let widths = &self.view.etype.widths;
         let displacements = &self.view.etype.displacements;
         let origins = &self.view.filetype.origins;
-        let kept = checks::handle_kept(self.mode, self.pointer, v, widths, displacements, origins);
-        if !kept {
-            return Owned {
+        let valid = call_checks::handle_valid(
+            self.mode,
+            self.pointer,
+            v,
+            widths,
+            displacements,
+            origins,
+        );
+        if !valid {
+            return ReverseAnswer {
                 refusal: Handle::REFUSED_HANDLE,
                 count: 0,
                 handle: self,
                 owner: Owner::Nobody,
             };
         }
-        if !limits::writes(self.mode) {
-            return Owned {
+        if !rule_limits::writes(self.mode) {
+            return ReverseAnswer {
                 refusal: Handle::REFUSED_MODE,
                 count: 0,
                 handle: self,
                 owner: Owner::Nobody,
             };
         }
-        let owner = reverse::owner_of(v, widths, displacements, origins, byte);
-        Owned {
+        let owner = view_owner::owner_of(v, widths, displacements, origins, byte);
+        ReverseAnswer {
             refusal: 0,
             count: 0,
             handle: self,
@@ -376,15 +468,15 @@ impl Handle {
         }
     }
 
-    // End of file in etypes: the smallest offset such that no etype at it or later begins below the size.
-    pub fn end(self, file: &[u8], rec: FileRecord) -> Ended
+    // Document 01's end of file, in etypes: the smallest offset such that no etype at it or later begins below the size.
+    pub fn end(self, file: &[u8], rec: FileRecord) -> EndAnswer
         ensures { λ r. ⌜ r ≡ endAnswer self (length (now (file .entry))) rec ⌝ }
     {
         let v = self.view.numbers();
         let widths = &self.view.etype.widths;
         let displacements = &self.view.etype.displacements;
         let origins = &self.view.filetype.origins;
-        let kept = checks::file_kept(
+        let valid = call_checks::file_valid(
             self.mode,
             self.pointer,
             v,
@@ -394,8 +486,8 @@ impl Handle {
             file.len() as u64,
             rec.size,
         );
-        if !kept {
-            return Ended {
+        if !valid {
+            return EndAnswer {
                 refusal: Handle::REFUSED_HANDLE,
                 count: 0,
                 handle: self,
@@ -403,8 +495,8 @@ impl Handle {
                 end: Offset(0),
             };
         }
-        let end = locate::end_of(v, &self.view.filetype.origins, rec.size);
-        Ended {
+        let end = view_place::end_of(v, &self.view.filetype.origins, rec.size);
+        EndAnswer {
             refusal: 0,
             count: 0,
             handle: self,
@@ -414,14 +506,14 @@ impl Handle {
     }
 
     // Moves the pointer: `by`, which may be negative, is added to nothing, to the pointer or to the end of file.
-    pub fn seek(mut self, file: &[u8], rec: FileRecord, by: i64, whence: u64) -> Moved
+    pub fn seek(mut self, file: &[u8], rec: FileRecord, by: i64, whence: u64) -> SeekAnswer
         ensures { λ r. ⌜ r ≡ seekAnswer self (length (now (file .entry))) rec by whence ⌝ }
     {
         let v = self.view.numbers();
         let widths = &self.view.etype.widths;
         let displacements = &self.view.etype.displacements;
         let origins = &self.view.filetype.origins;
-        let kept = checks::file_kept(
+        let valid = call_checks::file_valid(
             self.mode,
             self.pointer,
             v,
@@ -431,18 +523,18 @@ impl Handle {
             file.len() as u64,
             rec.size,
         );
-        if !kept {
-            return refused(Handle::REFUSED_HANDLE, self, rec);
+        if !valid {
+            return seek_refused(Handle::REFUSED_HANDLE, self, rec);
         }
         let origins = &self.view.filetype.origins; // lent anew, beside no other list
         let base = seek_base(self.pointer, v, origins, rec.size, whence);
-        let target = ranges::target_of(base, by);
-        let refusal = ranges::seek_refusal(whence, target.allowed);
+        let target = call_range::target_of(base, by);
+        let refusal = call_range::seek_refusal(whence, target.allowed);
         if refusal != 0 {
-            return refused(refusal, self, rec);
+            return seek_refused(refusal, self, rec);
         }
         self.pointer = target.pointer;
-        Moved {
+        SeekAnswer {
             refusal: 0,
             count: 0,
             handle: self,
@@ -458,14 +550,14 @@ impl Handle {
         o: Offset,
         count: u64,
         buf: &mut [u8],
-    ) -> Moved
+    ) -> ReadAnswer
         ensures { λ r. ⌜ ReadAt self (now (file .entry)) rec (o .0) count (now (buf .entry)) (now (buf .exit)) r ⌝ }
     {
         let v = self.view.numbers();
         let widths = &self.view.etype.widths;
         let displacements = &self.view.etype.displacements;
         let origins = &self.view.filetype.origins;
-        let done = access::read(
+        let done = call_access::read(
             self.mode,
             self.pointer,
             v,
@@ -478,7 +570,7 @@ impl Handle {
             count,
             buf,
         );
-        Moved {
+        ReadAnswer {
             refusal: done.refusal,
             count: done.count,
             handle: self,
@@ -487,8 +579,8 @@ impl Handle {
     }
 
     // The pointer as an offset; 0 for a pointer that check 1 refuses. For our own crates.
-    pub fn start(self) -> Offset
-        ensures { λ r. ⌜ r .0 ≡ startOf self ⌝ }
+    pub fn pointer_offset(self) -> Offset
+        ensures { λ r. ⌜ r .0 ≡ pointerOffset self ⌝ }
     {
         if Handle::MAX_POINTER < self.pointer {
             return Offset(0);
@@ -497,15 +589,15 @@ impl Handle {
     }
 
     // Reads `count` etypes at the pointer and raises it by the number moved.
-    pub fn read(mut self, file: &[u8], rec: FileRecord, count: u64, buf: &mut [u8]) -> Moved
+    pub fn read(mut self, file: &[u8], rec: FileRecord, count: u64, buf: &mut [u8]) -> ReadAnswer
         ensures { λ r. ⌜ ReadNext self (now (file .entry)) rec count (now (buf .entry)) (now (buf .exit)) r ⌝ }
     {
-        let start = self.start();
+        let start = self.pointer_offset();
         let v = self.view.numbers();
         let widths = &self.view.etype.widths;
         let displacements = &self.view.etype.displacements;
         let origins = &self.view.filetype.origins;
-        let done = access::read(
+        let done = call_access::read(
             self.mode,
             self.pointer,
             v,
@@ -519,10 +611,10 @@ impl Handle {
             buf,
         );
         if done.refusal != 0 {
-            return refused(done.refusal, self, rec);
+            return read_refused(done.refusal, self, rec);
         }
         self.pointer = self.pointer + done.count;
-        Moved {
+        ReadAnswer {
             refusal: 0,
             count: done.count,
             handle: self,
@@ -538,14 +630,14 @@ impl Handle {
         o: Offset,
         count: u64,
         buf: &[u8],
-    ) -> Moved
+    ) -> WriteAnswer
         ensures { λ r. ⌜ WriteAt self (now (file .entry)) (now (file .exit)) rec (o .0) count (now (buf .entry)) r ⌝ }
     {
         let v = self.view.numbers();
         let widths = &self.view.etype.widths;
         let displacements = &self.view.etype.displacements;
         let origins = &self.view.filetype.origins;
-        let done = access::write(
+        let done = call_access::write(
             self.mode,
             self.pointer,
             v,
@@ -558,7 +650,7 @@ impl Handle {
             count,
             buf,
         );
-        Moved {
+        WriteAnswer {
             refusal: done.refusal,
             count: done.count,
             handle: self,
@@ -567,15 +659,15 @@ impl Handle {
     }
 
     // Writes `count` etypes of the buffer at the pointer and raises it by as many.
-    pub fn write(mut self, file: &mut [u8], rec: FileRecord, count: u64, buf: &[u8]) -> Moved
+    pub fn write(mut self, file: &mut [u8], rec: FileRecord, count: u64, buf: &[u8]) -> WriteAnswer
         ensures { λ r. ⌜ WriteNext self (now (file .entry)) (now (file .exit)) rec count (now (buf .entry)) r ⌝ }
     {
-        let begin = self.start();
+        let begin = self.pointer_offset();
         let v = self.view.numbers();
         let widths = &self.view.etype.widths;
         let displacements = &self.view.etype.displacements;
         let origins = &self.view.filetype.origins;
-        let done = access::write(
+        let done = call_access::write(
             self.mode,
             self.pointer,
             v,
@@ -589,10 +681,10 @@ impl Handle {
             buf,
         );
         if done.refusal != 0 {
-            return refused(done.refusal, self, rec);
+            return write_refused(done.refusal, self, rec);
         }
         self.pointer = self.pointer + count;
-        Moved {
+        WriteAnswer {
             refusal: 0,
             count: count,
             handle: self,

@@ -6,8 +6,8 @@ use native.Mathlib.Nat.{add-zero, add-suc, zero-add, suc-add}
 use native.Mathlib.Omega.{arith}
 use lib.ListN.{length, getD, set, take, drop, take-append-drop, length-drop, drop-of-length-le}
 use lib.Seq.{length-take-le, take-all, getD-take, ext-getD}
-use Rattle.laws.specs.Lists.{store, front}
-use Rattle.laws.proofs.Stores.{store-same, length-store, front-at}
+use Rattle.laws.specs.Lists.{tabulate, store, front}
+use Rattle.laws.proofs.Stores.{length-tabulate, tabulate-at, store-same, length-store, front-at}
 
 -- a stores, then b more
 store-add : {A : Type 0} (place : ℕ → ℕ) (value : ℕ → A) (a b : ℕ) (l : List A) → store place value (a + b) l ≡ store (λ k. place (a + k)) (λ k. value (a + k)) b (store place value a l)
@@ -55,3 +55,9 @@ take-front d xs l value h same =
     let e = length-store (λ i. i) value (length xs) l in
     let n = length-take-le (length xs) s (omega arith) in
     ext-getD d (take (length xs) s) xs n (λ i q. let b : i < length xs = omega arith in getD-take (length xs) s i d b ∙ front-at value (length xs) l d i b (omega arith) ∙ same i b)
+
+-- what is stored at the front of a list, as a list of its own
+pub front-part : {A : Type 0} (f : ℕ → A) (n : ℕ) (d : A) (l : List A) → n ≤ length l → take n (front f n l) ≡ tabulate f n
+front-part f n d l h =
+    let e = length-tabulate f n in
+    rw e at (take-front d (tabulate f n) l f (omega arith) (λ i b. sym (tabulate-at f n i d (omega arith))))

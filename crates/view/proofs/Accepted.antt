@@ -15,7 +15,7 @@ use Rattle.laws.proofs.Searching.{all-at, all-intro}
 use Rattle.laws.proofs.Quotients.{run-below, runs-below, run-div, run-mod}
 use Rattle.view.specs.Limits.{widthAllowed, etypeEntriesAllowed, filetypeEntriesAllowed, entryDisplacementAllowed, extentAllowed, displacementAllowed}
 use Rattle.view.specs.Types.{PaperType, PaperView, entries, widthAt, displacementAt, extentOf, whole}
-use Rattle.view.specs.Rules.{paired, entryAllowed, entriesAllowed, typeOrdered, instances, origin, IsBuilt, entryBuilt, built, viewHolesFit, apart, allowsWriting, viewRefusal, accepted, Kept}
+use Rattle.view.specs.Rules.{paired, entryAllowed, entriesAllowed, typeOrdered, instances, origin, IsBuilt, entryBuilt, built, viewHolesFit, apart, allowsWriting, viewRefusal, accepted, Valid}
 
 -- ---- the rules one by one
 
@@ -89,8 +89,8 @@ unfolding either allowsWriting
 reading-only v = refl
 
 -- a view that is accepted for some mode keeps all but overlap's rule
-pub rules-kept : (mode : ℕ) (v : PaperView) → Rules mode v → Kept v
-rules-kept mode v r = record {
+pub rules-valid : (mode : ℕ) (v : PaperView) → Rules mode v → Valid v
+rules-valid mode v r = record {
   keeps = rules-accept 1 v (record {
     displacement = r .displacement;
     etype-paired = r .etype-paired;
@@ -109,8 +109,8 @@ rules-kept mode v r = record {
   });
 }
 
-pub accepted-kept : (mode : ℕ) (v : PaperView) → accepted mode v ≡ true → Kept v
-accepted-kept mode v h = rules-kept mode v (rules mode v h)
+pub accepted-valid : (mode : ℕ) (v : PaperView) → accepted mode v ≡ true → Valid v
+accepted-valid mode v h = rules-valid mode v (rules mode v h)
 
 -- one that is accepted for writing keeps overlap's too
 pub writing-apart : (mode : ℕ) (v : PaperView) → accepted mode v ≡ true → allowsWriting mode ≡ true → apart v ≡ true
@@ -260,7 +260,7 @@ module _ (v : PaperView) (r : Rules 1 v) where
     group-displacement = λ g e lg le. group-entry v (r .is-built) g e lg le .1;
   }
 
-pub facts : (v : PaperView) → Kept v → Facts v
+pub facts : (v : PaperView) → Valid v → Facts v
 facts v k = rules-facts v (rules 1 v (k .keeps))
 
 -- ---- what follows of the instances

@@ -10,7 +10,7 @@ use Rattle.laws.proofs.Booleans.{lt-or-le}
 use Rattle.laws.proofs.Sums.{greatest-above, greatest-one}
 use Rattle.laws.proofs.Quotients.{run-div, run-mod}
 use Rattle.view.specs.Types.{PaperView, extentOf, whole}
-use Rattle.view.specs.Rules.{instances, origin, Kept}
+use Rattle.view.specs.Rules.{instances, origin, Valid}
 use Rattle.view.specs.Places.{place}
 use Rattle.view.specs.End.{IsEnd, endFrom, endOfFile}
 use Rattle.view.proofs.Accepted.{Facts, facts, instances-some}
@@ -62,8 +62,8 @@ module _ (v : PaperView) (f : Facts v) (size : ℕ) where
   smallest-end : (m : ℕ) → ((x : ℕ) → m ≤ x → size ≤ place v x) → endOfFile v size ≤ m
   smallest-end m h = ⊎-elim (λ q. absurd (omega (arith, last-of-all (omega arith), h (endOfFile v size - 1) (omega arith)))) (λ q. q) (lt-or-le m (endOfFile v size))
 
-pub end-is : (v : PaperView) (size : ℕ) → Kept v → IsEnd v size (endOfFile v size)
+pub end-is : (v : PaperView) (size : ℕ) → Valid v → IsEnd v size (endOfFile v size)
 end-is v size k = record { past = past-end v (facts v k) size; smallest = smallest-end v (facts v k) size }
 
-pub end-only : (v : PaperView) (size k : ℕ) → Kept v → IsEnd v size k → k ≡ endOfFile v size
+pub end-only : (v : PaperView) (size k : ℕ) → Valid v → IsEnd v size k → k ≡ endOfFile v size
 end-only v size k h e = le-antisymm (e .smallest (endOfFile v size) (end-is v size h .past)) (end-is v size h .smallest k (e .past))

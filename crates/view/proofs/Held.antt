@@ -1,4 +1,4 @@
--- What a kept view says of the record that holds it: counts, extents and displacements within document 01's limits, and allowed widths.
+-- What a valid view says of the record that holds it: counts, extents and displacements within document 01's limits, and allowed widths.
 use Prim.Native.Nat.{ℕ, _+_, _≤_, _<_}
 use mathlib.Core.Bool.{true}
 use mathlib.Core.Path.{_≡_, sym, ap, _∙_}
@@ -7,11 +7,11 @@ use Rattle.laws.specs.Lists.{nth}
 use Rattle.view.specs.declared.View.{View}
 use Rattle.view.specs.Limits.{widthAllowed}
 use Rattle.view.specs.Types.{paper}
-use Rattle.view.specs.Rules.{Kept}
+use Rattle.view.specs.Rules.{Valid}
 use Rattle.view.proofs.Paper.{paper-start, paper-entries, paper-width, paper-displacement, paper-instances, paper-origin, paper-file-extent}
 use Rattle.view.proofs.Accepted.{Facts, facts, instances-some, instances-few, origin-small}
 
-module _ (v : View) (k : Kept (paper v)) where
+module _ (v : View) (k : Valid (paper v)) where
   known : Facts (paper v)
   known = facts (paper v) k
 

@@ -14,8 +14,8 @@ use Rattle.laws.proofs.Stores.{tabulate-is, front-at, front-past}
 use Rattle.laws.proofs.Quotients.{runs-below}
 use Rattle.view.specs.Limits.{displacementAllowed, extentAllowed, entryDisplacementAllowed}
 use Rattle.view.specs.Types.{PaperType, PaperView, entries, widthAt, displacementAt, extentOf, whole, paper}
-use Rattle.view.specs.Rules.{paired, entryAllowed, entriesAllowed, instances, origin, hold, accepted}
-use Rattle.view.proofs.Accepted.{Rules, rules, Facts, facts, accepted-kept, built-entry, entry-built-inv, instances-few}
+use Rattle.view.specs.Rules.{paired, entryAllowed, entriesAllowed, instances, origin, recordOf, accepted}
+use Rattle.view.proofs.Accepted.{Rules, rules, Facts, facts, accepted-valid, built-entry, entry-built-inv, instances-few}
 
 -- a number that is in range is the natural number taken for it
 pub displacement-whole : (z : ℤ) → displacementAllowed z ≡ true → pos (whole z) ≡ z
@@ -65,7 +65,7 @@ module _ (mode : ℕ) (v : PaperView) (h : accepted mode v ≡ true) where
   r = rules mode v h
 
   f : Facts v
-  f = facts v (accepted-kept mode v h)
+  f = facts v (accepted-valid mode v h)
 
   width-held : (i : ℕ) → i < entries (v .etype) → nth (front (widthAt (v .etype)) (entries (v .etype)) (replicate 8 0)) i ≡ widthAt (v .etype) i
   width-held i l = held-at (widthAt (v .etype)) (entries (v .etype)) 8 (f .few) i l
@@ -93,27 +93,27 @@ module _ (mode : ℕ) (v : PaperView) (h : accepted mode v ≡ true) where
     file-displacement : nth (front (origin v) (instances v) (replicate 64 0)) (i / entries (v .etype)) + nth (front (displacementAt (v .etype)) (entries (v .etype)) (replicate 8 0)) (i % entries (v .etype)) ≡ displacementAt (v .filetype) i
     file-displacement = omega (arith, origin-held (i / entries (v .etype)) group, displacement-held (i % entries (v .etype)) entry, is-built .1)
 
-  etype-same : paper (hold v) .etype ≡ v .etype
-  unfolding paper hold
+  etype-same : paper (recordOf v) .etype ≡ v .etype
+  unfolding paper recordOf
   etype-same =
-      let w = type-widths (v .etype) (nth (hold v .etype .widths)) width-held in
-      let d = type-displacements (v .etype) (nth (hold v .etype .displacements)) (r .etype-paired) (r .etype-allowed) displacement-held in
+      let w = type-widths (v .etype) (nth (recordOf v .etype .widths)) width-held in
+      let d = type-displacements (v .etype) (nth (recordOf v .etype .displacements)) (r .etype-paired) (r .etype-allowed) displacement-held in
       let x = type-extent (v .etype) (r .etype-extent) in
       λ i. record { widths = w i; displacements = d i; extent = x i }
 
-  filetype-same : paper (hold v) .filetype ≡ v .filetype
-  unfolding paper hold
+  filetype-same : paper (recordOf v) .filetype ≡ v .filetype
+  unfolding paper recordOf
   filetype-same =
       let n = entries (v .etype) in
-      let w = ap (tabulate (λ i. nth (hold v .etype .widths) (i % n))) (f .groups) ∙ type-widths (v .filetype) (λ i. nth (hold v .etype .widths) (i % n)) file-width in
-      let d = ap (tabulate (λ i. pos (nth (hold v .filetype .origins) (i / n) + nth (hold v .etype .displacements) (i % n)))) (f .groups) ∙ type-displacements (v .filetype) (λ i. nth (hold v .filetype .origins) (i / n) + nth (hold v .etype .displacements) (i % n)) (r .filetype-paired) (r .filetype-allowed) file-displacement in
+      let w = ap (tabulate (λ i. nth (recordOf v .etype .widths) (i % n))) (f .groups) ∙ type-widths (v .filetype) (λ i. nth (recordOf v .etype .widths) (i % n)) file-width in
+      let d = ap (tabulate (λ i. pos (nth (recordOf v .filetype .origins) (i / n) + nth (recordOf v .etype .displacements) (i % n)))) (f .groups) ∙ type-displacements (v .filetype) (λ i. nth (recordOf v .filetype .origins) (i / n) + nth (recordOf v .etype .displacements) (i % n)) (r .filetype-paired) (r .filetype-allowed) file-displacement in
       let x = type-extent (v .filetype) (r .filetype-extent) in
       λ i. record { widths = w i; displacements = d i; extent = x i }
 
-  start-same : paper (hold v) .displacement ≡ v .displacement
-  unfolding paper hold
+  start-same : paper (recordOf v) .displacement ≡ v .displacement
+  unfolding paper recordOf
   start-same = displacement-whole (v .displacement) (r .displacement)
 
   -- the lent lists entry for entry, both extents and the displacement
-  pub hold-same : paper (hold v) ≡ v
-  hold-same = λ i. record { displacement = start-same i; etype = etype-same i; filetype = filetype-same i }
+  pub record-same : paper (recordOf v) ≡ v
+  record-same = λ i. record { displacement = start-same i; etype = etype-same i; filetype = filetype-same i }

@@ -15,7 +15,7 @@ use Rattle.laws.proofs.Quotients.{run-div, run-mod, run-below, next-in, next-ov
 use Rattle.view.specs.Types.{PaperView, entries, widthAt, displacementAt, extentOf, whole}
 use Rattle.view.specs.Rules.{instances, apart, entryApart, nextBegins, accepted, allowsWriting}
 use Rattle.view.specs.Places.{place, dataSize, packedBefore, entryOf, dataAt, byteOf, Distinct, Narrow}
-use Rattle.view.proofs.Accepted.{Facts, facts, accepted-kept, writing-apart, instances-some}
+use Rattle.view.proofs.Accepted.{Facts, facts, accepted-valid, writing-apart, instances-some}
 use Rattle.view.proofs.Packing.{entry-below, entry-ends, entry-begins}
 
 -- where entry q of the view begins: entry q mod N of tile q div N
@@ -147,7 +147,7 @@ module _ (v : PaperView) (f : Facts v) (a : apart v ≡ true) where
 
 module _ (mode : ℕ) (v : PaperView) (h : accepted mode v ≡ true) (w : allowsWriting mode ≡ true) where
   pub distinct : Distinct v
-  distinct = apart-distinct v (facts v (accepted-kept mode v h)) (writing-apart mode v h w)
+  distinct = apart-distinct v (facts v (accepted-valid mode v h)) (writing-apart mode v h w)
 
   pub narrow : Narrow v
-  narrow = apart-narrow v (facts v (accepted-kept mode v h)) (writing-apart mode v h w)
+  narrow = apart-narrow v (facts v (accepted-valid mode v h)) (writing-apart mode v h w)

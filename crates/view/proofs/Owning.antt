@@ -17,7 +17,7 @@ use Rattle.view.specs.Types.{PaperView, entries, widthAt, displacementAt
 use Rattle.view.specs.Rules.{instances, accepted, allowsWriting}
 use Rattle.view.specs.Places.{place, packedBefore, dataSize, entryOf, dataAt, byteOf, Distinct, Narrow}
 use Rattle.view.specs.Owners.{Belongs, OneOwner, Answers, entryStart, offsetIn, indexIn, hits, hitEntry, ownerOf}
-use Rattle.view.proofs.Accepted.{Facts, facts, accepted-kept, instances-some}
+use Rattle.view.proofs.Accepted.{Facts, facts, accepted-valid, instances-some}
 use Rattle.view.proofs.Packing.{entry-below, entry-ends, entry-begins, data-run, packed-part}
 use Rattle.view.proofs.Injective.{distinct, narrow}
 
@@ -162,7 +162,7 @@ one-owner mode v h w = record { one = λ b x y j k p q. belongs-one v b x y j k 
 
 module _ (mode : ℕ) (v : PaperView) (h : accepted mode v ≡ true) (w : allowsWriting mode ≡ true) (b : ℕ) where
   pub owner-is : Answers v b (ownerOf v b)
-  owner-is = answers v (facts v (accepted-kept mode v h)) b (narrow mode v h w)
+  owner-is = answers v (facts v (accepted-valid mode v h)) b (narrow mode v h w)
 
   pub owner-only : (o : Owner) → Answers v b o → o ≡ ownerOf v b
   owner-only o a = one-answer v b (distinct mode v h w) o (ownerOf v b) a owner-is

@@ -1,4 +1,4 @@
--- The view on paper that a held record stands for, number by number.
+-- The view on paper that a view's record stands for, number by number.
 use Prim.Native.Nat.{ℕ, _+_, _*_, _/_, _%_, _<_}
 use mathlib.Core.Path.{_≡_, refl, ap, _∙_}
 use native.Mathlib.Nat.{mul-div-cancel, mul-mod-left, mod-lt, mul-lt-mul-of-pos-right}

@@ -1,4 +1,4 @@
--- A view as inner functions take it: its numbers by value, and of its three lists those that they need, lent. A reader need not believe these: the contracts of calls speak of the held record.
+-- A view as inner functions take it: its numbers by value, and of its three lists those that they need, lent. A reader need not believe these: the contracts of calls speak of the view's record.
 use Prim.Native.Nat.{ℕ}
 use mathlib.Core.List.{List}
 use Rattle.view.specs.declared.View.{View}

@@ -130,14 +130,14 @@ setRefusal mode representation v = check (isNative representation) 2 (viewRefusa
 unfoldable pub accepted : ℕ → PaperView → Bool
 accepted mode v = eqb (viewRefusal mode v) 0
 
--- every limit and rule but overlap's: accepted for reading. Each view that is accepted for some mode keeps these (`accepted-kept`)
-pub record Kept (v : PaperView) : Type 0 where
+-- every limit and rule but overlap's: accepted for reading. Each view that is accepted for some mode keeps these (`accepted-valid`)
+pub record Valid (v : PaperView) : Type 0 where
   pub keeps : accepted 1 v ≡ true
 
--- ---- the record that an accepted view is held in; its unused places are 0
+-- ---- the record of an accepted view; its unused places are 0
 
-unfoldable pub hold : PaperView → View
-hold v =
+unfoldable pub recordOf : PaperView → View
+recordOf v =
     let n = entries (v .etype) in
     record {
       displacement = whole (v .displacement);

@@ -1,4 +1,4 @@
--- Document 01, "A type on paper": types and views as lists and numbers, and the ones that a held record stands for.
+-- Document 01, "A type on paper": types and views as lists and numbers, and the ones that a view's record stands for.
 use Prim.Native.Nat.{ℕ, _+_, _-_, _*_, _/_, _%_}
 use mathlib.Core.List.{List, _∷_}
 use mathlib.Core.Path.{_≡_}
@@ -39,7 +39,7 @@ displacementAt t i = whole (getD (t .displacements) i (pos 0))
 unfoldable pub extentOf : PaperType → ℕ
 extentOf t = whole (t .extent)
 
--- the view that a held record stands for: of the etype's lists the places in use, and for each origin in use the etype shifted by it.
+-- the view that a view's record stands for: of the etype's lists the places in use, and for each origin in use the etype shifted by it.
 -- All that is said of a record below is said of this; what its other places hold plays no part
 unfoldable pub paper : View → PaperView
 paper v =

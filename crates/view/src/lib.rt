@@ -1,4 +1,4 @@
-// A file view: displacement, etype and filetype, as MPI defines it, with its limits and the default view.
+// A file view: displacement, etype and filetype, as MPI defines it, with its limits, the modes, the refusal numbers and the default view.
 // What a view means (document 01's rules, places, belonging and end of file) is in specs/.
 ghost use mathlib.Core.Path.{_≡_};
 ghost use Prim.Native.Nat.{_<_};
@@ -101,12 +101,48 @@ impl View {
     pub const OFFSET_COUNT: u64 = 4294967296;
 
     pub const MAX_FILE_SIZE: u64 = 1099511627776;
-    // The modes of an open, by which overlap is judged.
+
+    // The modes of an open: overlap is refused in a mode that allows writing. An open that names no mode has 0.
+    pub const MODE_UNNAMED: u64 = 0;
+
     pub const MODE_READING: u64 = 1;
 
     pub const MODE_WRITING: u64 = 2;
 
     pub const MODE_BOTH: u64 = 3;
+
+    // Document 01's refusal numbers, in its order.
+    pub const REFUSED_HANDLE: u64 = 1;
+
+    pub const REFUSED_REPRESENTATION: u64 = 2;
+
+    pub const REFUSED_DISPLACEMENT: u64 = 3;
+
+    pub const REFUSED_ENTRY_COUNT: u64 = 4;
+
+    pub const REFUSED_EXTENT: u64 = 5;
+
+    pub const REFUSED_ENTRY: u64 = 6;
+
+    pub const REFUSED_ORDER: u64 = 7;
+
+    pub const REFUSED_GROUPS: u64 = 8;
+
+    pub const REFUSED_HOLE: u64 = 9;
+
+    pub const REFUSED_OVERLAP: u64 = 10;
+
+    pub const REFUSED_MODE: u64 = 11;
+
+    pub const REFUSED_RANGE: u64 = 12;
+
+    pub const REFUSED_ROOM: u64 = 13;
+
+    pub const REFUSED_LENGTH: u64 = 14;
+
+    pub const REFUSED_WHENCE: u64 = 15;
+
+    pub const REFUSED_OPEN_MODE: u64 = 16;
 
     // The linear byte stream: displacement 0, both types one entry of width 1 at 0 with extent 1.
     pub fn linear() -> View

@@ -6,9 +6,9 @@ use Rattle.file.proofs.Handle.end.Tie as tie
 
 returns : tie.Need-returns
 returns c =
-    let kept = c .before in
-    let numbered = kept .before .before .before .before .before in
-    end-handle _ _ _ _ (numbered .numbers .ensures) _ (kept .file-kept .ensures) (c .if1 .taken)
+    let valid = c .before in
+    let numbered = valid .before .before .before .before .before in
+    end-handle _ _ _ _ (numbered .numbers .ensures) _ (valid .file-valid .ensures) (c .if1 .taken)
 
 end-of-requires : tie.Need-end-of-requires
 end-of-requires c κs = (search file-tiled, search file-origins, search file-size)
@@ -16,9 +16,9 @@ end-of-requires c κs = (search file-tiled, search file-origins, search file-siz
 returns-2 : tie.Need-returns-2
 returns-2 c =
     let passed = c .before .before .before in
-    let kept = passed .before in
-    let numbered = kept .before .before .before .before .before in
-    end-done _ _ _ _ (numbered .numbers .ensures) _ (kept .file-kept .ensures) (passed .if1 .left) _ (c .end-of .ensures)
+    let valid = passed .before in
+    let numbered = valid .before .before .before .before .before in
+    end-done _ _ _ _ (numbered .numbers .ensures) _ (valid .file-valid .ensures) (passed .if1 .left) _ (c .end-of .ensures)
 
 pub end-spec : {M : Type 1} → statement M
 end-spec =

@@ -1,4 +1,4 @@
--- `read_at` answers what `access::read` answers, with the handle and the file record as they came. Assumes nothing.
+-- `read_at` answers what `call_access::read` answers, with the handle and the file record as they came. Assumes nothing.
 use borrow.Author.Needs.{needs}
 use Rattle.file.proofs.Readable.{at-answered}
 use Rattle.file.proofs.Handle.read_at.Statement.{statement}

@@ -10,9 +10,9 @@ returns c = search reverse-handle
 returns-2 : tie.Need-returns-2
 returns-2 c =
     let passed = c .before .before in
-    let kept = passed .before in
-    let numbered = kept .before .before .before .before .before in
-    reverse-mode _ _ _ (numbered .numbers .ensures) _ (kept .handle-kept .ensures) (passed .if1 .left) _ (c .before .writes .ensures) (c .if2 .taken)
+    let valid = passed .before in
+    let numbered = valid .before .before .before .before .before in
+    reverse-mode _ _ _ (numbered .numbers .ensures) _ (valid .handle-valid .ensures) (passed .if1 .left) _ (c .before .writes .ensures) (c .if2 .taken)
 
 owner-of-requires : tie.Need-owner-of-requires
 owner-of-requires c κs = search handle-lent
@@ -21,9 +21,9 @@ returns-3 : tie.Need-returns-3
 returns-3 c =
     let allowed = c .before in
     let passed = allowed .before .before in
-    let kept = passed .before in
-    let numbered = kept .before .before .before .before .before in
-    reverse-done _ _ _ (numbered .numbers .ensures) _ (kept .handle-kept .ensures) (passed .if1 .left) _ (allowed .before .writes .ensures) (allowed .if2 .left) _ (c .owner-of .ensures)
+    let valid = passed .before in
+    let numbered = valid .before .before .before .before .before in
+    reverse-done _ _ _ (numbered .numbers .ensures) _ (valid .handle-valid .ensures) (passed .if1 .left) _ (allowed .before .writes .ensures) (allowed .if2 .left) _ (c .owner-of .ensures)
 
 pub reverse-spec : {M : Type 1} → statement M
 reverse-spec =

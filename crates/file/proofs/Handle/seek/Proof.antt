@@ -12,25 +12,25 @@ seek-base-requires c κs = (search file-tiled, search file-origins, search file-
 
 returns-2 : tie.Need-returns-2
 returns-2 c =
-    let judged = c .before .before in
-    let aimed = judged .before in
+    let checked = c .before .before in
+    let aimed = checked .before in
     let based = aimed .before in
     let passed = based .before .before .before in
-    let kept = passed .before in
-    let numbered = kept .before .before .before .before .before in
+    let valid = passed .before in
+    let numbered = valid .before .before .before .before .before in
     let start = numbered .before .before .before in
-    seek-refused _ _ _ _ _ _ (numbered .numbers .ensures) _ (kept .file-kept .ensures) (passed .if1 .left) (start .fits .by) _ (based .seek-base .ensures) _ (aimed .target-of .ensures) _ (judged .seek-refusal .ensures) (c .before .if2 .taken) _ (c .refused2 .ensures)
+    seek-refused _ _ _ _ _ _ (numbered .numbers .ensures) _ (valid .file-valid .ensures) (passed .if1 .left) (start .fits .by) _ (based .seek-base .ensures) _ (aimed .target-of .ensures) _ (checked .seek-refusal .ensures) (c .before .if2 .taken) _ (c .seek-refused2 .ensures)
 
 returns-3 : tie.Need-returns-3
 returns-3 c =
-    let judged = c .before in
-    let aimed = judged .before in
+    let checked = c .before in
+    let aimed = checked .before in
     let based = aimed .before in
     let passed = based .before .before .before in
-    let kept = passed .before in
-    let numbered = kept .before .before .before .before .before in
+    let valid = passed .before in
+    let numbered = valid .before .before .before .before .before in
     let start = numbered .before .before .before in
-    seek-done _ _ _ _ _ _ (numbered .numbers .ensures) _ (kept .file-kept .ensures) (passed .if1 .left) (start .fits .by) _ (based .seek-base .ensures) _ (aimed .target-of .ensures) _ (judged .seek-refusal .ensures) (c .if2 .left)
+    seek-done _ _ _ _ _ _ (numbered .numbers .ensures) _ (valid .file-valid .ensures) (passed .if1 .left) (start .fits .by) _ (based .seek-base .ensures) _ (aimed .target-of .ensures) _ (checked .seek-refusal .ensures) (c .if2 .left)
 
 pub seek-spec : {M : Type 1} → statement M
 seek-spec =

@@ -10,20 +10,20 @@ returns-2 : tie.Need-returns-2
 returns-2 c =
     let made = c .before .before .before in
     let passed = made .before in
-    let kept = passed .before in
-    let numbered = kept .before .before .before .before .before in
+    let valid = passed .before in
+    let numbered = valid .before .before .before .before .before in
     let start = numbered .before .before .before .before .before in
-    set-refuses _ _ _ _ _ _ _ _ _ (start .fits .displacement) (start .fits .ex) (start .fits .fx) _ (numbered .numbers .ensures) _ (kept .handle-kept .ensures) (passed .if1 .left) _ (made .accept .ensures) (c .before .if2 .taken) _ (c .answered2 .ensures)
+    set-refuses _ _ _ _ _ _ _ _ _ (start .fits .displacement) (start .fits .ex) (start .fits .fx) _ (numbered .numbers .ensures) _ (valid .handle-valid .ensures) (passed .if1 .left) _ (made .accept .ensures) (c .before .if2 .taken) _ (c .set-view-answer2 .ensures)
 
 returns-3 : tie.Need-returns-3
 returns-3 c =
     let granted = c .before .before in
     let made = granted .before .before in
     let passed = made .before in
-    let kept = passed .before in
-    let numbered = kept .before .before .before .before .before in
+    let valid = passed .before in
+    let numbered = valid .before .before .before .before .before in
     let start = numbered .before .before .before .before .before in
-    set-grants _ _ _ _ _ _ _ _ _ (start .fits .displacement) (start .fits .ex) (start .fits .fx) _ (numbered .numbers .ensures) _ (kept .handle-kept .ensures) (passed .if1 .left) _ (made .accept .ensures) (granted .if2 .left) _ (c .answered3 .ensures)
+    set-grants _ _ _ _ _ _ _ _ _ (start .fits .displacement) (start .fits .ex) (start .fits .fx) _ (numbered .numbers .ensures) _ (valid .handle-valid .ensures) (passed .if1 .left) _ (made .accept .ensures) (granted .if2 .left) _ (c .set-view-answer3 .ensures)
 
 pub set-view-spec : {M : Type 1} → statement M
 set-view-spec =

@@ -12,7 +12,7 @@ add-self c =
     let written = c .before .before .before .before in
     let numbered = written .before .before .before .before .before .before in
     let started = numbered .before .before in
-    let fits = pointer-fits _ _ _ _ _ _ _ (numbered .numbers .ensures) _ _ (started .start .ensures) (written .write .ensures) (c .if1 .left) in
+    let fits = pointer-fits _ _ _ _ _ _ _ (numbered .numbers .ensures) _ _ (started .pointer-offset .ensures) (written .write .ensures) (c .if1 .left) in
     search (needs, fits)
 
 returns-2 : tie.Need-returns-2

@@ -1,4 +1,4 @@
--- `write_at` answers what `access::write` answers, with the handle as it came. Assumes nothing.
+-- `write_at` answers what `call_access::write` answers, with the handle as it came. Assumes nothing.
 use borrow.Author.Needs.{needs}
 use Rattle.file.proofs.Writable.{at-answered}
 use Rattle.file.proofs.Handle.write_at.Statement.{statement}

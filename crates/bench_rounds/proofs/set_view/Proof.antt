@@ -1,0 +1,64 @@
+-- `set_view` decodes each list into the front of an array and lends this front. Assumes nothing.
+use mathlib.Core.Path.{sym}
+use lib.Seq.{length-take-le}
+use borrow.Author.Needs.{needs}
+use Rattle.bench_rounds.proofs.Setting.{set-view-is}
+use Rattle.bench_rounds.proofs.set_view.Statement.{statement}
+use Rattle.bench_rounds.proofs.set_view.Tie as tie
+
+slice-aggregate-set-lists : tie.Need-slice-aggregate-set-lists
+slice-aggregate-set-lists c = sym (length-take-le _ _ (search needs))
+
+slice-aggregate-set-lists-2 : tie.Need-slice-aggregate-set-lists-2
+slice-aggregate-set-lists-2 c = sym (length-take-le _ _ (search needs))
+
+slice-aggregate-set-lists-3 : tie.Need-slice-aggregate-set-lists-3
+slice-aggregate-set-lists-3 c = sym (length-take-le _ _ (search needs))
+
+slice-aggregate-set-lists-4 : tie.Need-slice-aggregate-set-lists-4
+slice-aggregate-set-lists-4 c = sym (length-take-le _ _ (search needs))
+
+returns : tie.Need-returns
+returns c =
+    let d = c .before .before .before .before .before .before in
+    let f = d .before .before .before in
+    let g = f .before .before .before in
+    let w = g .before .before .before in
+    let rest = w .before .before in
+    let n4 = rest .before in
+    let n3 = n4 .before in
+    let n2 = n3 .before in
+    let n1 = n2 .before in
+    set-view-is _ _ _ _ _ (rest .bytes-after .result) _ _ _ _ _ (n1 .list-length .ensures) (n2 .list-length2 .ensures) (n3 .list-length3 .ensures) (n4 .list-length4 .ensures) (rest .bytes-after .ensures .1) (w .numbers-into .ensures) (g .signed-into .ensures) (f .numbers-into2 .ensures) (d .signed-into2 .ensures) (c .set-lists .ensures)
+
+pub set-view-spec : {M : Type 1} → statement M
+set-view-spec =
+    tie.close
+    (tie.spec
+    (λ c κs. search needs)
+    (λ c κs. search needs)
+    (λ c κs. search needs)
+    (λ c κs. search needs)
+    (λ c. search needs)
+    (λ c. search needs)
+    (λ c. search needs)
+    (λ c. search needs)
+    (λ c κs. search needs)
+    (λ c. search needs)
+    (λ c κs. search needs)
+    (λ c. search needs)
+    (λ c κs. search needs)
+    (λ c. search needs)
+    (λ c κs. search needs)
+    (λ c. search needs)
+    (λ c κs. search needs)
+    (λ c. search needs)
+    slice-aggregate-set-lists
+    (λ c. search needs)
+    slice-aggregate-set-lists-2
+    (λ c. search needs)
+    slice-aggregate-set-lists-3
+    (λ c. search needs)
+    slice-aggregate-set-lists-4
+    (λ c κs. search needs)
+    returns)

@@ -1,0 +1,156 @@
+// Reads and writes in rounds, for a host program that measures them: a handle is opened, a view set, and the same access made again and again at one explicit offset.
+// The view comes as the body of a record of tag 36 (docs/conformance.md), and the answer is the refusal number of the set or of the access that ended the rounds, 0 if all were granted.
+ghost use mathlib.Core.Path.{_≡_};
+ghost use Prim.Native.Nat.{_≤_};
+ghost use lib.ListN.{length, drop};
+ghost use Rattle.bench_rounds.specs.Body.{listLength, viewOfLists};
+ghost use Rattle.bench_rounds.specs.Rounds.{setFresh, viewSet, afterSet, readRounds, writeRounds, Left};
+use file::FileRecord;
+use file::Handle;
+use file::SetViewAnswer;
+use view::Offset;
+
+// How many numbers of a body stand before its lists.
+const FIRST_NUMBERS: usize = 8;
+
+// The longest list.
+const LONGEST_LIST: u64 = 300;
+
+// What the set or a round leaves to the next round. It is no answer's type, so that the two loops share it.
+struct Last {
+    refusal: u64,
+    handle: Handle,
+    file: FileRecord,
+}
+
+// The length of the list that number `i` of a body counts.
+fn list_length(body: &[u8], i: usize) -> usize
+    ensures { λ r. ⌜ (r ≡ listLength (now (body .entry)) i) × (r ≤ 300) ⌝ }
+{
+    let n = tagged_fields::number(body, i);
+    laws::smaller(n, LONGEST_LIST) as usize
+}
+
+// Opens a handle with mode 3 and sets the view of four lists; the representation begins at byte `rest` of the body.
+fn set_lists(
+    body: &[u8],
+    rest: usize,
+    ew: &[u64],
+    ed: &[i64],
+    fw: &[u64],
+    fd: &[i64],
+) -> SetViewAnswer
+    requires { ⌜ rest ≤ length (now body) ⌝ }
+    ensures { λ r. ⌜ r ≡ setFresh (drop rest (now (body .entry))) (viewOfLists (now (body .entry)) (now (ew .entry)) (now (ed .entry)) (now (fw .entry)) (now (fd .entry))) ⌝ }
+{
+    let d = tagged_fields::signed_at(body, 1);
+    let ex = tagged_fields::signed_at(body, 2);
+    let fx = tagged_fields::signed_at(body, 3);
+    let opened = Handle::open(Handle::MODE_BOTH);
+    let fresh = opened.handle;
+    fresh.set_view(&body[rest..], d, ew, ed, ex, fw, fd, fx)
+}
+
+// Opens a handle with mode 3 and sets the view that the body describes.
+fn set_view(view: &[u8]) -> SetViewAnswer
+    ensures { λ r. ⌜ r ≡ viewSet (now (view .entry)) ⌝ }
+{
+    let n1 = list_length(view, 4);
+    let n2 = list_length(view, 5);
+    let n3 = list_length(view, 6);
+    let n4 = list_length(view, 7);
+    let second = FIRST_NUMBERS + n1;
+    let third = second + n2;
+    let fourth = third + n3;
+    let rest = tagged_fields::bytes_after(view, fourth + n4);
+    let mut ew = [0u64; LONGEST_LIST as usize];
+    let mut ed = [0i64; LONGEST_LIST as usize];
+    let mut fw = [0u64; LONGEST_LIST as usize];
+    let mut fd = [0i64; LONGEST_LIST as usize];
+    tagged_fields::numbers_into(view, FIRST_NUMBERS, n1, &mut ew);
+    tagged_fields::signed_into(view, second, n2, &mut ed);
+    tagged_fields::numbers_into(view, third, n3, &mut fw);
+    tagged_fields::signed_into(view, fourth, n4, &mut fd);
+    set_lists(view, rest, &ew[..n1], &ed[..n2], &fw[..n3], &fd[..n4])
+}
+
+// A handle with the view set and a file record of this size, for the first round.
+fn begin(view: &[u8], size: u64) -> Last
+    ensures { λ r. ⌜ r ≡ afterSet (now (view .entry)) size ⌝ }
+{
+    let set = set_view(view);
+    let handle = set.handle;
+    Last {
+        refusal: set.refusal,
+        handle: handle,
+        file: FileRecord { size: size },
+    }
+}
+
+// Reads `count` etypes at `offset` into the buffer, `rounds` times.
+#[no_mangle]
+pub extern "C" fn glyphbirch_read_rounds(
+    view: &[u8],
+    file: &[u8],
+    size: u64,
+    offset: i64,
+    count: u64,
+    rounds: u64,
+    buf: &mut [u8],
+) -> u64
+    ensures { λ r. ⌜ Left (readRounds (now (view .entry)) (now (file .entry)) size offset count rounds (now (buf .entry))) r (now (buf .exit)) ⌝ }
+{
+    let mut last_read = begin(view, size);
+    let mut reads = 0;
+    while reads < rounds {
+        if last_read.refusal != 0 {
+            return last_read.refusal;
+        }
+        let handle = last_read.handle;
+        let rec = last_read.file;
+        let answer = handle.read_at(file, rec, Offset(offset), count, buf);
+        let handle_after = answer.handle;
+        let rec_after = answer.file;
+        last_read = Last {
+            refusal: answer.refusal,
+            handle: handle_after,
+            file: rec_after,
+        };
+        reads += 1;
+    }
+    last_read.refusal
+}
+
+// Writes `count` etypes of the buffer at `offset`, `rounds` times.
+#[no_mangle]
+pub extern "C" fn glyphbirch_write_rounds(
+    view: &[u8],
+    file: &mut [u8],
+    size: u64,
+    offset: i64,
+    count: u64,
+    rounds: u64,
+    buf: &[u8],
+) -> u64
+    ensures { λ r. ⌜ Left (writeRounds (now (view .entry)) (now (file .entry)) size offset count rounds (now (buf .entry))) r (now (file .exit)) ⌝ }
+{
+    let mut last_write = begin(view, size);
+    let mut writes = 0;
+    while writes < rounds {
+        if last_write.refusal != 0 {
+            return last_write.refusal;
+        }
+        let handle = last_write.handle;
+        let rec = last_write.file;
+        let answer = handle.write_at(file, rec, Offset(offset), count, buf);
+        let handle_after = answer.handle;
+        let rec_after = answer.file;
+        last_write = Last {
+            refusal: answer.refusal,
+            handle: handle_after,
+            file: rec_after,
+        };
+        writes += 1;
+    }
+    last_write.refusal
+}

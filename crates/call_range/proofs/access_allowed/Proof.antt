@@ -1,0 +1,23 @@
+-- `access_allowed` tests the sign, the offset against 2^32, and the count against what is left up to it. Assumes nothing.
+use Rattle.call_range.proofs.Ranging.{accessing}
+use borrow.Author.Needs.{needs}
+use Rattle.call_range.proofs.access_allowed.Statement.{statement}
+use Rattle.call_range.proofs.access_allowed.Tie as tie
+
+returns : tie.Need-returns
+returns c = search accessing
+
+returns-2 : tie.Need-returns-2
+returns-2 c = search accessing
+
+returns-3 : tie.Need-returns-3
+returns-3 c = search accessing
+
+pub access-allowed-spec : {M : Type 1} → statement M
+access-allowed-spec =
+    tie.close
+    (tie.spec
+    returns
+    (λ c κs. search needs)
+    returns-2
+    returns-3)

@@ -1,0 +1,61 @@
+-- A handle that passes check 1 and allows writing: each file byte belongs to at most one pair of its view, and a granted reverse lookup answers that pair, or none if there is none.
+-- Rests on the laws of the reverse lookup, of a view that is accepted for writing.
+use Prim.Native.Nat.{ℕ}
+use mathlib.Core.Bool.{true}
+use mathlib.Core.Path.{_≡_, sym, ap, _∙_}
+use native.Mathlib.Omega.{arith}
+use Rattle.laws.proofs.Booleans.{check-inv, granted-yes}
+use Rattle.view.specs.declared.Owner.{Owner}
+use Rattle.view.specs.Rules.{accepted, allowsWriting}
+use Rattle.view.specs.Owners.{OneOwner, Answers, ownerOf}
+use Rattle.view.proofs.Owning.{one-owner, owner-is, owner-only}
+use Rattle.file.specs.declared.Handle.{Handle}
+use Rattle.file.specs.declared.ReverseAnswer.{ReverseAnswer}
+use Rattle.file.specs.Handles.{viewOf, handleValid}
+use Rattle.file.specs.Refusals.{reverseRefusal}
+use Rattle.file.specs.Answers.{reverseAnswer}
+use Rattle.file.proofs.Checking.{accepts}
+use Rattle.claim_write.specs.Owners.{LookedUp}
+
+module _ (h : Handle) (k : handleValid h ≡ true) where
+  pub handle-accepts : accepted (h .mode) (viewOf h) ≡ true
+  unfolding viewOf
+  handle-accepts = accepts h k
+
+  handle-owner : allowsWriting (h .mode) ≡ true → OneOwner (viewOf h)
+  handle-owner w = one-owner (h .mode) (viewOf h) handle-accepts w
+
+-- ---- a granted reverse lookup
+
+module _ (h : Handle) (z : reverseRefusal h ≡ 0) where
+  passed : (handleValid h ≡ true) × (allowsWriting (h .mode) ≡ true)
+  unfolding reverseRefusal
+  passed = let c = check-inv _ 1 _ (omega arith) z in (c .0, check-inv _ 11 _ (omega arith) (c .1) .0)
+
+  view-accepted : accepted (h .mode) (viewOf h) ≡ true
+  view-accepted = handle-accepts h (passed .0)
+
+  module _ (b : ℕ) where
+    owner-found : reverseAnswer h b .owner ≡ ownerOf (viewOf h) b
+    unfolding reverseAnswer
+    owner-found = granted-yes _ _ _ z
+
+    reverse-is : Answers (viewOf h) b (reverseAnswer h b .owner)
+    reverse-is = rw owner-found (owner-is (h .mode) (viewOf h) view-accepted (passed .1) b)
+
+    reverse-only : (o : Owner) → Answers (viewOf h) b o → o ≡ reverseAnswer h b .owner
+    reverse-only o a = owner-only (h .mode) (viewOf h) view-accepted (passed .1) b o a ∙ sym owner-found
+
+-- the claim, of any answer that the call gives
+module _ (h : Handle) (b : ℕ) (r : ReverseAnswer) (e : r ≡ reverseAnswer h b) where
+  is-granted : r .refusal ≡ 0 → reverseRefusal h ≡ 0
+  unfolding reverseAnswer
+  is-granted z = sym (ap (λ x. x .refusal) e) ∙ z
+
+  pub looked-up : LookedUp h b r
+  looked-up = record {
+    answer = e;
+    exact = λ z. rw e (reverse-is h (is-granted z) b);
+    only = λ z o a. reverse-only h (is-granted z) b o a ∙ sym (ap (λ x. x .owner) e);
+    one = λ z. handle-owner h (passed h (is-granted z) .0) (passed h (is-granted z) .1);
+  }

@@ -1,5 +1,0 @@
-pub mod Bodies
-pub mod Lines
-pub mod Lent
-pub mod Script
-pub mod Parts

@@ -1,0 +1,26 @@
+-- `entry_matches` follows the definition; the shift is compared by a difference, which cannot wrap. Assumes nothing.
+use borrow.Author.Tests.{eq-eqb, ne-eqb, le-leb, lt-leb}
+use Rattle.laws.proofs.Booleans.{also-yes, also-no}
+use Rattle.rule_groups.specs.Parts.{entryShifted}
+use Rattle.rule_groups.proofs.Building.{shift-low, shift-is}
+use Rattle.rule_groups.proofs.entry_matches.Statement.{statement}
+use Rattle.rule_groups.proofs.entry_matches.Tie as tie
+
+returns : tie.Need-returns
+unfolding entryShifted
+returns c = also-no _ _ (search ne-eqb)
+
+returns-2 : tie.Need-returns-2
+unfolding entryShifted
+returns-2 c = also-yes _ _ _ (search eq-eqb) (also-no _ _ (search lt-leb))
+
+returns-3 : tie.Need-returns-3
+unfolding entryShifted
+returns-3 c = also-yes _ _ _ (search eq-eqb) (also-yes _ _ _ (search le-leb) (search shift-low))
+
+returns-4 : tie.Need-returns-4
+unfolding entryShifted
+returns-4 c = also-yes _ _ _ (search eq-eqb) (also-yes _ _ _ (search le-leb) (search shift-is))
+
+pub entry-matches-spec : {M : Type 1} → statement M
+entry-matches-spec = tie.close (tie.spec returns returns-2 returns-3 returns-4)

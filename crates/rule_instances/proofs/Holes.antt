@@ -1,0 +1,72 @@
+-- Holes, as the loop passes them: the first, those between instances, the last.
+use Prim.Native.Nat.{ℕ, zero, suc, _+_, _-_, _%_, _≤_, _<_}
+use mathlib.Core.Bool.{Bool, true, false}
+use mathlib.Core.List.{List}
+use mathlib.Core.Path.{_≡_, sym, ap, _∙_}
+use native.Mathlib.Omega.{arith}
+use borrow.Author.Tests.{lt-ltb, le-ltb, eq-eqb, ne-eqb}
+use lib.Dec.{eqb}
+use lib.ListN.{getD}
+use Rattle.laws.specs.Lists.{nth}
+use Rattle.laws.specs.Search.{all}
+use Rattle.laws.proofs.Searching.{Passed, passed-none, passed-more, passed-fails, passed-holds}
+use Rattle.view.specs.Rules.{hole, holesFit}
+use Rattle.rule_instances.specs.Parts.{holeFits}
+
+-- ---- holes: the first, one between two instances, and the last
+
+module _ (ps : List ℕ) (k e f : ℕ) where
+  pub hole-first : getD ps 0 0 % e ≡ 0 → holeFits ps k e f 0 ≡ true
+  unfolding holeFits hole
+  hole-first z = eq-eqb _ 0 z
+
+  pub hole-first-no : (getD ps 0 0 % e ≡ 0 → ⊥) → holeFits ps k e f 0 ≡ false
+  unfolding holeFits hole
+  hole-first-no z = ne-eqb _ 0 z
+
+  hole-at : (i : ℕ) → 0 < i → i < k → hole (nth ps) k e f i ≡ nth ps i - nth ps (i - 1) - e
+  unfolding hole
+  hole-at zero p l = absurd (omega arith)
+  hole-at (suc i) p l = let q : suc i - 1 ≡ i = omega arith in rw (lt-ltb (suc i) k l, q)
+
+  hole-end : (i : ℕ) → 0 < i → i ≡ k → hole (nth ps) k e f i ≡ f - nth ps (k - 1) - e
+  unfolding hole
+  hole-end zero p l = absurd (omega arith)
+  hole-end (suc i) p l = let q : k - 1 ≡ i = omega arith in rw (le-ltb (suc i) k (omega arith), q)
+
+  module _ (i shift h : ℕ) (p : 1 ≤ i) (s : shift ≡ getD ps i 0 - getD ps (i - 1) 0) (q : h ≡ shift - e) where
+    between : i < k → hole (nth ps) k e f i ≡ h
+    between l = hole-at i (omega arith) l ∙ sym (q ∙ ap (λ (z : ℕ). z - e) s)
+
+    pub hole-between : i < k → h % e ≡ 0 → holeFits ps k e f i ≡ true
+    unfolding holeFits
+    hole-between l z = rw (between l) (eq-eqb _ 0 z)
+
+    pub hole-between-no : i < k → (h % e ≡ 0 → ⊥) → holeFits ps k e f i ≡ false
+    unfolding holeFits
+    hole-between-no l z = rw (between l) (ne-eqb _ 0 z)
+
+  pub holes-fail : (i : ℕ) → Passed (holeFits ps k e f) i (k + 1) → i < k → holeFits ps k e f i ≡ false → false ≡ holesFit (nth ps) k e f
+  unfolding holesFit holeFits
+  holes-fail i s l h = passed-fails _ i (k + 1) s (omega arith) h
+
+  pub holes-fail-first : 0 < k → holeFits ps k e f 0 ≡ false → false ≡ holesFit (nth ps) k e f
+  unfolding holesFit holeFits
+  holes-fail-first l h = passed-fails _ 0 (k + 1) (passed-none _ (k + 1)) (omega arith) h
+
+  pub holes-passed : 0 < k → holeFits ps k e f 0 ≡ true → Passed (holeFits ps k e f) 1 (k + 1)
+  holes-passed l h = passed-more (holeFits ps k e f) 0 (k + 1) (passed-none _ (k + 1)) (omega arith) h
+
+  pub holes-more : (i : ℕ) → Passed (holeFits ps k e f) i (k + 1) → i < k → holeFits ps k e f i ≡ true → Passed (holeFits ps k e f) (i + 1) (k + 1)
+  holes-more i s l h = passed-more (holeFits ps k e f) i (k + 1) s (omega arith) h
+
+  -- the last hole decides
+  pub holes-last : (i rest h : ℕ) → Passed (holeFits ps k e f) i (k + 1) → 1 ≤ i → i ≤ k → k ≤ i → rest ≡ f - getD ps (k - 1) 0 → h ≡ rest - e → eqb (h % e) 0 ≡ holesFit (nth ps) k e f
+  unfolding holesFit holeFits
+  holes-last i rest h s p a b r q =
+      let z : hole (nth ps) k e f i ≡ h = hole-end i (omega arith) (omega arith) ∙ sym (q ∙ ap (λ (x : ℕ). x - e) r) in
+      ends (eqb (h % e) 0) (ap (λ (x : ℕ). eqb (x % e) 0) z)
+    where
+      ends : (t : Bool) → eqb (hole (nth ps) k e f i % e) 0 ≡ t → t ≡ all (λ x. eqb (hole (nth ps) k e f x % e) 0) (k + 1)
+      ends true z = passed-holds _ (i + 1) (k + 1) (passed-more _ i (k + 1) s (omega arith) z) (omega arith)
+      ends false z = passed-fails _ i (k + 1) s (omega arith) z

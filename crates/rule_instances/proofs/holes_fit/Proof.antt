@@ -1,0 +1,59 @@
+-- `holes_fit` passes the holes in order: the first, those between instances, the last. Assumes nothing.
+use Prim.Native.Nat.{_-_, _+_, _≤_, _<_}
+use Rattle.laws.proofs.Searching.{Passed}
+use Rattle.rule_instances.specs.Parts.{holeFits}
+use Rattle.rule_instances.proofs.Holes.{hole-first, hole-first-no, hole-between, hole-between-no, holes-fail, holes-fail-first, holes-passed, holes-more, holes-last}
+use borrow.Author.Needs.{needs}
+use Rattle.rule_instances.proofs.holes_fit.Statement.{statement}
+use Rattle.rule_instances.proofs.holes_fit.Tie as tie
+
+abbrev Inv-loop : tie.InvT-loop
+Inv-loop instances origins extent e k i₀ i = (1 ≤ i) × (i ≤ k) × (k ≤ 64) × (0 < e) × Passed (holeFits origins k e extent) i (k + 1)
+
+abbrev μ-loop : tie.MeasureT-loop
+μ-loop instances origins extent e k i₀ i = k - i
+
+returns : tie.Need-returns Inv-loop μ-loop
+returns c = search (hole-first-no, holes-fail-first)
+
+loop-holds : tie.Need-loop-holds Inv-loop μ-loop
+loop-holds c = search (needs, hole-first, holes-passed)
+
+returns-2 : tie.Need-returns-2 Inv-loop μ-loop
+returns-2 c = search (hole-between-no, holes-fail)
+
+loop-again : tie.Need-loop-again Inv-loop μ-loop
+loop-again c = search (needs, hole-between, holes-more)
+
+returns-3 : tie.Need-returns-3 Inv-loop μ-loop
+returns-3 c = search holes-last
+
+pub holes-fit-spec : {M : Type 1} → statement M
+holes-fit-spec =
+    tie.close
+    (tie.spec
+    Inv-loop
+    μ-loop
+    (λ c. search needs)
+    (λ c. search needs)
+    returns
+    loop-holds
+    (λ c. search needs)
+    (λ c. search needs)
+    (λ c. search needs)
+    (λ c. search needs)
+    (λ c. search needs)
+    (λ c κs. search needs)
+    (λ c κs. search needs)
+    (λ c. search needs)
+    returns-2
+    (λ c. search needs)
+    (λ c. search needs)
+    loop-again
+    (λ c. search needs)
+    (λ c. search needs)
+    (λ c. search needs)
+    (λ c κs. search needs)
+    (λ c κs. search needs)
+    (λ c. search needs)
+    returns-3)

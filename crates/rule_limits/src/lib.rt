@@ -1,0 +1,136 @@
+// Document 01's table of limits and its modes, tested on single numbers: no list is read. These functions are pub for our own crates.
+ghost use mathlib.Core.Path.{_≡_};
+ghost use Rattle.view.specs.Limits.{widthAllowed, extentAllowed, displacementAllowed, fileAllowed};
+ghost use Rattle.view.specs.Rules.{allowsReading, allowsWriting};
+ghost use Rattle.rule_limits.specs.Parts.{entryFits, signedEntryFits, countsAllowed, modeAndPointerAllowed};
+use view::View;
+
+// Width: 1, 2, 4 or 8.
+pub fn width_allowed(w: u64) -> bool
+    ensures { λ r. ⌜ r ≡ widthAllowed w ⌝ }
+{
+    if w == View::WIDTH_1 {
+        return true;
+    }
+    if w == View::WIDTH_2 {
+        return true;
+    }
+    if w == View::WIDTH_4 {
+        return true;
+    }
+    w == View::WIDTH_8
+}
+
+// Whether an entry of width `w` at `d` is allowed.
+pub fn entry_fits(w: u64, d: u64) -> bool
+    ensures { λ r. ⌜ r ≡ entryFits w d ⌝ }
+{
+    if !width_allowed(w) {
+        return false;
+    }
+    if View::MAX_ENTRY_END < d {
+        return false;
+    }
+    d + w <= View::MAX_ENTRY_END
+}
+
+// The same for a displacement that comes in signed.
+pub fn entry_allowed(w: u64, d: i64) -> bool
+    ensures { λ r. ⌜ r ≡ signedEntryFits w d ⌝ }
+{
+    if d < View::MIN_ENTRY_DISPLACEMENT {
+        return false;
+    }
+    entry_fits(w, view::natural(d))
+}
+
+// Whether each type's two lists have one length, and both entry counts are allowed.
+pub fn counts_allowed(ew: usize, ed: usize, fw: usize, fd: usize) -> bool
+    ensures { λ r. ⌜ r ≡ countsAllowed ew ed fw fd ⌝ }
+{
+    if ew != ed {
+        return false;
+    }
+    if fw != fd {
+        return false;
+    }
+    let n = ew as u64;
+    if n < View::MIN_ENTRIES {
+        return false;
+    }
+    if View::MAX_ETYPE_ENTRIES < n {
+        return false;
+    }
+    let m = fw as u64;
+    if m < View::MIN_ENTRIES {
+        return false;
+    }
+    if View::MAX_FILETYPE_ENTRIES < m {
+        return false;
+    }
+    m <= View::MAX_INSTANCES * n
+}
+
+// Whether an extent is in range. A negative one counts as 0, which is not.
+pub fn extent_allowed(x: i64) -> bool
+    ensures { λ r. ⌜ r ≡ extentAllowed x ⌝ }
+{
+    let extent = view::natural(x);
+    if extent < View::MIN_EXTENT {
+        return false;
+    }
+    extent <= View::MAX_EXTENT
+}
+
+// Whether a view displacement is in range.
+pub fn displacement_allowed(d: i64) -> bool
+    ensures { λ r. ⌜ r ≡ displacementAllowed d ⌝ }
+{
+    if d < View::MIN_DISPLACEMENT {
+        return false;
+    }
+    view::natural(d) <= View::MAX_DISPLACEMENT
+}
+
+// Whether a file's length is in range, and its size at most the length.
+pub fn file_allowed(len: u64, size: u64) -> bool
+    ensures { λ r. ⌜ r ≡ fileAllowed len size ⌝ }
+{
+    if View::MAX_FILE_SIZE < len {
+        return false;
+    }
+    size <= len
+}
+
+// Mode 1 or 3.
+pub fn reads(mode: u64) -> bool
+    ensures { λ r. ⌜ r ≡ allowsReading mode ⌝ }
+{
+    if mode == View::MODE_READING {
+        return true;
+    }
+    mode == View::MODE_BOTH
+}
+
+// Mode 2 or 3.
+pub fn writes(mode: u64) -> bool
+    ensures { λ r. ⌜ r ≡ allowsWriting mode ⌝ }
+{
+    if mode == View::MODE_WRITING {
+        return true;
+    }
+    mode == View::MODE_BOTH
+}
+
+// Whether a handle's mode and pointer are within their limits.
+pub fn mode_and_pointer_allowed(mode: u64, pointer: u64) -> bool
+    ensures { λ r. ⌜ r ≡ modeAndPointerAllowed mode pointer ⌝ }
+{
+    if View::OFFSET_COUNT < pointer {
+        return false;
+    }
+    if mode < View::MODE_READING {
+        return false;
+    }
+    mode <= View::MODE_BOTH
+}

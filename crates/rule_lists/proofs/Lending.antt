@@ -1,0 +1,92 @@
+-- How the loops of this crate go on, and what the flags of checks 3 to 6 say of the lent lists.
+use Prim.Native.Nat.{ℕ, _^_, _≤_, _<_}
+use mathlib.Core.Bool.{Bool, true, false, not}
+use mathlib.Core.List.{List}
+use mathlib.Core.Path.{_≡_, sym, ap, _∙_}
+use borrow.Author.Needs.{sfits-of}
+use borrow.Author.Tests.{eqb-true, eq-eqb, ne-eqb}
+use lib.IntN.{ℤ, pos}
+use lib.ListN.{length, getD}
+use lib.Signed.{mag}
+use mir.Syntax.{w64}
+use mir.Val.{SFits, toZ, ofZ, hbits}
+use mir.Facts.{toZ-ofZ}
+use Rattle.laws.specs.Search.{all}
+use Rattle.laws.proofs.Booleans.{also-inv, also-yes, also-no, unflag-true, unflag-false}
+use Rattle.laws.proofs.Searching.{Passed, passed-fails, passed-holds}
+use Rattle.view.specs.Limits.{extentAllowed, displacementAllowed}
+use Rattle.view.specs.Types.{entries, widthAt}
+use Rattle.view.specs.Rules.{nativeName, isNative, entryAllowed, entriesAllowed}
+use Rattle.rule_limits.specs.Parts.{countsAllowed, signedEntryFits}
+use Rattle.rule_lists.specs.Lists.{typeOfLists}
+use Rattle.rule_lists.specs.Parts.{nativeAt, signedEntryFitsAt}
+
+-- ---- the representation
+
+pub native-yes : (r : List ℕ) (i : ℕ) → getD r i 0 ≡ getD nativeName i 0 → nativeAt r i ≡ true
+unfolding nativeAt
+native-yes r i h = eq-eqb _ _ h
+
+pub native-no : (r : List ℕ) (i : ℕ) → (getD r i 0 ≡ getD nativeName i 0 → ⊥) → nativeAt r i ≡ false
+unfolding nativeAt
+native-no r i h = ne-eqb _ _ h
+
+pub native-short : (r : List ℕ) → (length r ≡ 6 → ⊥) → false ≡ isNative r
+unfolding isNative
+native-short r h = also-no _ _ (ne-eqb _ _ h)
+
+pub native-fails : (r : List ℕ) (i : ℕ) → length r ≡ 6 → Passed (nativeAt r) i 6 → i < 6 → nativeAt r i ≡ false → false ≡ isNative r
+unfolding isNative nativeAt
+native-fails r i e s l h = also-yes _ _ false (eq-eqb _ _ e) (passed-fails _ i 6 s l h)
+
+pub native-holds : (r : List ℕ) (i : ℕ) → length r ≡ 6 → Passed (nativeAt r) i 6 → 6 ≤ i → true ≡ isNative r
+unfolding isNative nativeAt
+native-holds r i e s l = also-yes _ _ true (eq-eqb _ _ e) (passed-holds _ i 6 s l)
+
+-- ---- entries
+
+module _ (ws : List ℕ) (ds : List ℤ) (i : ℕ) (t : Bool) (m : mag (getD ds i (pos 0)) < 2 ^ hbits w64) (e : t ≡ signedEntryFits (getD ws i 0) (toZ w64 (ofZ w64 (getD ds i (pos 0))))) where
+  flag : t ≡ signedEntryFitsAt ws ds i
+  unfolding signedEntryFitsAt
+  flag = e ∙ ap (signedEntryFits (getD ws i 0)) (toZ-ofZ {w = w64} {z = getD ds i (pos 0)} (sfits-of m))
+
+  pub lent-yes : not t ≡ false → signedEntryFitsAt ws ds i ≡ true
+  lent-yes n = unflag-true t _ flag n
+
+  pub lent-no : not t ≡ true → signedEntryFitsAt ws ds i ≡ false
+  lent-no n = unflag-false t _ flag n
+
+-- ---- the flags of checks 3 to 6
+
+module _ (z : ℤ) (t : Bool) (f : SFits w64 z) where
+  pub displacement-yes : t ≡ displacementAllowed (toZ w64 (ofZ w64 z)) → not t ≡ false → displacementAllowed z ≡ true
+  displacement-yes e n = unflag-true t _ (e ∙ ap displacementAllowed (toZ-ofZ f)) n
+
+  pub displacement-no : t ≡ displacementAllowed (toZ w64 (ofZ w64 z)) → not t ≡ true → displacementAllowed z ≡ false
+  displacement-no e n = unflag-false t _ (e ∙ ap displacementAllowed (toZ-ofZ f)) n
+
+  pub extent-yes : t ≡ extentAllowed (toZ w64 (ofZ w64 z)) → not t ≡ false → extentAllowed z ≡ true
+  extent-yes e n = unflag-true t _ (e ∙ ap extentAllowed (toZ-ofZ f)) n
+
+  pub extent-no : t ≡ extentAllowed (toZ w64 (ofZ w64 z)) → not t ≡ true → extentAllowed z ≡ false
+  extent-no e n = unflag-false t _ (e ∙ ap extentAllowed (toZ-ofZ f)) n
+
+module _ (ws : List ℕ) (ds : List ℤ) (x : ℤ) (t : Bool) (e : t ≡ all (signedEntryFitsAt ws ds) (length ws)) where
+  lent : t ≡ entriesAllowed (typeOfLists ws ds x)
+  unfolding entriesAllowed entryAllowed entries widthAt signedEntryFitsAt signedEntryFits
+  lent = e
+
+  pub entries-yes : not t ≡ false → entriesAllowed (typeOfLists ws ds x) ≡ true
+  entries-yes n = unflag-true t _ lent n
+
+  pub entries-no : not t ≡ true → entriesAllowed (typeOfLists ws ds x) ≡ false
+  entries-no n = unflag-false t _ lent n
+
+module _ (a b c d : ℕ) (t : Bool) (e : t ≡ countsAllowed a b c d) (n : not t ≡ false) where
+  pub etype-pairs : b ≡ a
+  unfolding countsAllowed
+  etype-pairs = sym (eqb-true a b (also-inv _ _ (unflag-true t _ e n) .0))
+
+  pub filetype-pairs : d ≡ c
+  unfolding countsAllowed
+  filetype-pairs = sym (eqb-true c d (also-inv _ _ (also-inv _ _ (unflag-true t _ e n) .1) .0))

@@ -1,0 +1,46 @@
+-- `entries_allowed` passes the entries in order and leaves at the first that is not allowed. Assumes nothing.
+use Prim.Native.Nat.{_-_}
+use mathlib.Core.Path.{_≡_}
+use native.Mathlib.Omega.{arith}
+use lib.ListN.{length}
+use Rattle.laws.proofs.Searching.{Passed, passed-none, passed-fails, passed-more, passed-holds}
+use Rattle.rule_lists.specs.Parts.{signedEntryFitsAt}
+use Rattle.rule_lists.proofs.Lending.{lent-no, lent-yes}
+use Rattle.rule_lists.proofs.entries_allowed.Statement.{statement}
+use Rattle.rule_lists.proofs.entries_allowed.Tie as tie
+
+abbrev Inv-loop : tie.InvT-loop
+Inv-loop ws ds i₀ i = (length ds ≡ length ws) × Passed (signedEntryFitsAt ws ds) i (length ws)
+
+abbrev μ-loop : tie.MeasureT-loop
+μ-loop ws ds i₀ i = length ws - i
+
+loop-holds : tie.Need-loop-holds Inv-loop μ-loop
+loop-holds c = search passed-none
+
+returns : tie.Need-returns Inv-loop μ-loop
+returns c = search (passed-fails, lent-no)
+
+loop-again : tie.Need-loop-again Inv-loop μ-loop
+loop-again c = search (passed-more, lent-yes)
+
+returns-2 : tie.Need-returns-2 Inv-loop μ-loop
+returns-2 c = search passed-holds
+
+pub entries-allowed-spec : {M : Type 1} → statement M
+entries-allowed-spec =
+    tie.close
+    (tie.spec
+    Inv-loop
+    μ-loop
+    loop-holds
+    (λ c. omega arith)
+    (λ c. omega arith)
+    (λ c. omega arith)
+    (λ c. omega arith)
+    (λ c κs. tt)
+    returns
+    (λ c. omega arith)
+    (λ c. omega arith)
+    loop-again
+    returns-2)

@@ -1,0 +1,34 @@
+-- What the program's calls require: a view that passed the test is valid, and its first offsets are allowed.
+use Prim.Native.Nat.{ℕ, _<_}
+use mathlib.Core.Bool.{Bool, true, false, not}
+use mathlib.Core.List.{List}
+use mathlib.Core.Path.{_≡_, ap, _∙_}
+use native.Mathlib.Omega.{arith}
+use borrow.Author.Needs.{needs}
+use borrow.Author.Tests.{lt-ltb}
+use lib.IntN.{ℤ, pos}
+use Rattle.laws.proofs.Booleans.{unflag-true}
+use Rattle.view.specs.declared.Numbers.{Numbers}
+use Rattle.view.specs.Limits.{offsetAllowed}
+use Rattle.view.specs.Types.{paper}
+use Rattle.view.specs.Rules.{accepted, Valid}
+use Rattle.view.specs.Numbers.{viewWith}
+use Rattle.view.proofs.Accepted.{accepted-valid}
+use Rattle.view_place.specs.Spots.{Tiled, OriginsLow}
+use Rattle.view_place.proofs.Laid.{tiled, origins-low}
+
+module _ (v : Numbers) (ws ds ps : List ℕ) (mode : ℕ) (t : Bool) (e : t ≡ accepted mode (paper (viewWith v ws ds ps))) (h : not t ≡ false) where
+  valid : Valid (paper (viewWith v ws ds ps))
+  valid = accepted-valid mode (paper (viewWith v ws ds ps)) (unflag-true t _ e h)
+
+  pub tested-tiled : Tiled v
+  tested-tiled = tiled (viewWith v ws ds ps) valid
+
+  pub tested-origins : OriginsLow v ps
+  tested-origins = origins-low (viewWith v ws ds ps) valid
+
+pub first-allowed : (z : ℤ) (o : ℕ) → z ≡ pos o → o < 5 → offsetAllowed z ≡ true
+unfolding offsetAllowed
+first-allowed z o e l = ap offsetAllowed e ∙ lt-ltb o 4294967296 (omega arith)
+
+pub ruleset showing = (needs, tested-tiled, tested-origins, first-allowed)

@@ -1,0 +1,2 @@
+pub mod Typemaps
+pub mod Parts
