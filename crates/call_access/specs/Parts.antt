@@ -17,7 +17,7 @@ use Rattle.call_access.specs.declared.ReadOutcome.{ReadOutcome}
 use Rattle.call_access.specs.declared.WriteOutcome.{WriteOutcome}
 use Rattle.call_access.specs.declared.WriteChecks.{WriteChecks}
 
--- the answers, and the judgement of a write, with these numbers
+-- the answers, and the checks of a write, with these numbers
 abbrev pub readAs : ℕ → ℕ → ReadOutcome
 readAs n c = record { refusal = n; count = c }
 

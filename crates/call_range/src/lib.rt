@@ -124,10 +124,10 @@ pub fn seek_refusal(whence: u64, within: bool) -> u64
     if LAST_WHENCE < whence {
         return View::REFUSED_WHENCE;
     }
-    if !within {
-        return View::REFUSED_RANGE;
+    if within {
+        return 0;
     }
-    0
+    View::REFUSED_RANGE
 }
 
 // Check 13 of giving back: whether the four lists, by their lengths, have room for `n` entries of the etype and `k` times as many of the filetype. For our own crates.

@@ -13,7 +13,7 @@ use lib.Signed.{ltZ, nonNeg, mag}
 use mir.Syntax.{w64}
 use mir.Val.{Fits, SFits, toZ, ofZ, hbits}
 use mir.Facts.{toZ-ofZ}
-use Rattle.checksum.specs.Digests.{code}
+use Rattle.checksum.specs.Checksums.{code}
 
 pub code-pos : (z : ℤ) → ltZ z (pos 0) ≡ false → natAbs z ≡ code z
 unfolding code

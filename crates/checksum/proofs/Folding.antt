@@ -5,7 +5,7 @@ use native.Mathlib.Nat.{mul-add-mod-self-right}
 use native.Mathlib.Numerals.{add-one}
 use native.Mathlib.Omega.{arith}
 use borrow.Author.Needs.{needs}
-use Rattle.checksum.specs.Digests.{modulus, fed, digestOf}
+use Rattle.checksum.specs.Checksums.{modulus, fed, checksumOf}
 
 -- the remainder of s serves as well as s
 pub feed-is : (s x : ℕ) → (s % modulus * 65599 + x % modulus + 1) % modulus ≡ fed s x
@@ -17,17 +17,17 @@ feed-is s x =
 -- d is the checksum of the first i numbers of n
 pub record Folded (f : ℕ → ℕ) (i n d : ℕ) : Type 0 where
   pub reached : i ≤ n
-  pub is : d ≡ digestOf f i
+  pub is : d ≡ checksumOf f i
 
 pub folded-none : (f : ℕ → ℕ) (n : ℕ) → Folded f 0 n 7
-unfolding digestOf
+unfolding checksumOf
 folded-none f n = record { reached = omega arith; is = refl }
 
 pub folded-more : (f : ℕ → ℕ) (i n d x r : ℕ) → Folded f i n d → i < n → x ≡ f i → r ≡ fed d x → Folded f (i + 1) n r
-unfolding digestOf
+unfolding checksumOf
 folded-more f i n d x r h l ex er = let q = h .is in record { reached = omega arith; is = rw (add-one i) (cc) }
 
-pub folded-end : (f : ℕ → ℕ) (i n d : ℕ) → Folded f i n d → n ≤ i → d ≡ digestOf f n
-folded-end f i n d h l = h .is ∙ ap (digestOf f) (omega (arith, h .reached))
+pub folded-end : (f : ℕ → ℕ) (i n d : ℕ) → Folded f i n d → n ≤ i → d ≡ checksumOf f n
+folded-end f i n d h l = h .is ∙ ap (checksumOf f) (omega (arith, h .reached))
 
 pub ruleset folding = (needs, folded-none, folded-more, folded-end)

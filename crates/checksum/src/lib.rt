@@ -1,6 +1,6 @@
 // The checksums of the conformance driver (docs/conformance.md). Nothing of MPI.
 ghost use mathlib.Core.Path.{_≡_};
-ghost use Rattle.checksum.specs.Digests.{fed, code, listDigest, signedDigest};
+ghost use Rattle.checksum.specs.Checksums.{fed, code, listChecksum, signedChecksum};
 
 // The checksum that a run of no numbers has.
 pub const BEGIN: u64 = 7;
@@ -33,7 +33,7 @@ pub fn coded(x: i64) -> u64
 
 // The checksum of bytes.
 pub fn bytes(s: &[u8]) -> u64
-    ensures { λ r. ⌜ r ≡ listDigest (now (s .entry)) ⌝ }
+    ensures { λ r. ⌜ r ≡ listChecksum (now (s .entry)) ⌝ }
 {
     let mut d = BEGIN;
     let mut i = 0;
@@ -46,7 +46,7 @@ pub fn bytes(s: &[u8]) -> u64
 
 // The checksum of numbers.
 pub fn numbers(s: &[u64]) -> u64
-    ensures { λ r. ⌜ r ≡ listDigest (now (s .entry)) ⌝ }
+    ensures { λ r. ⌜ r ≡ listChecksum (now (s .entry)) ⌝ }
 {
     let mut d = BEGIN;
     let mut i = 0;
@@ -58,8 +58,8 @@ pub fn numbers(s: &[u64]) -> u64
 }
 
 // The checksum of signed numbers.
-pub fn offsets(s: &[i64]) -> u64
-    ensures { λ r. ⌜ r ≡ signedDigest (now (s .entry)) ⌝ }
+pub fn signed(s: &[i64]) -> u64
+    ensures { λ r. ⌜ r ≡ signedChecksum (now (s .entry)) ⌝ }
 {
     let mut d = BEGIN;
     let mut i = 0;

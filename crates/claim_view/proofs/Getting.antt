@@ -10,7 +10,7 @@ use lib.ListN.{length, take}
 use mir.Syntax.{w64}
 use mir.Val.{SFits, toZ, ofZ}
 use mir.Facts.{toZ-ofZ}
-use Rattle.laws.specs.Checks.{check, granted}
+use Rattle.laws.specs.Checks.{granted}
 use Rattle.laws.specs.Lists.{front}
 use Rattle.laws.proofs.Booleans.{also-true, also-inv, check-zero, check-inv, granted-yes}
 use Rattle.laws.proofs.Runs.{take-front}

@@ -22,8 +22,6 @@ use Rattle.view.proofs.Injective.{distinct}
 use Rattle.call_range.proofs.Ranging.{access-sum}
 use Rattle.move_read.specs.Moves.{newSize, IsWritten, written}
 use Rattle.move_read.proofs.Writing.{written-is}
-use Rattle.file.specs.declared.Handle.{Handle}
-use Rattle.file.specs.declared.FileRecord.{FileRecord}
 use Rattle.file.specs.declared.WriteAnswer.{WriteAnswer}
 use Rattle.file.specs.Handles.{viewOf, handleValid, withPointer, withSize}
 use Rattle.file.specs.Refusals.{writeRefusal}

@@ -64,7 +64,7 @@ module _ (w : Write) (before after buffer into into' : List ℕ) (m : WriteAnswe
     size-is : m .file .size ≡ newSize (viewOf (w .handle)) (w .file .size) (whole (offsetOf w)) (w .count)
     size-is = new-size w before after buffer m made z
 
-    -- the new size is within the file, whose length the write valid
+    -- the new size is within the file, whose length the write leaves
     new-short : m .file .size ≤ length after
     unfolding newSize
     new-short = omega (arith, size-is, g .checks .ends, file-short _ _ _ (g .checks .valid), g .bytes .long)

@@ -37,7 +37,7 @@ use Rattle.file.specs.Handles.{viewOf, freshHandle, modeGot, handleValid
 use Rattle.file.specs.Refusals.{openRefusal, setViewRefusal, byteOffsetRefusal, reverseRefusal, endRefusal}
 use Rattle.file.specs.Answers.{openAnswer, setViewAnswer, byteOffsetAnswer, reverseAnswer, endAnswer}
 use Rattle.file.proofs.Checking.{handle-view, file-valid-view}
-use Rattle.file.proofs.Lending.{lentOf, lent-same, handle-judged, file-judged}
+use Rattle.file.proofs.Lending.{viewOfParts, lent-same, handle-judged, file-judged}
 
 -- ---- set
 
@@ -46,7 +46,7 @@ module _ (h : Handle) (representation : List ℕ) (v : PaperView) where
   unfolding setViewAnswer
   set-refused n e z = let g = granted-no (setViewRefusal h representation v) (withView h (recordOf v)) h (λ q. z (e ∙ q)) in λ i. record { refusal = e i; count = 0; handle = sym g i }
 
-  module _ (f : Numbers) (s : f ≡ numbersOf (h .view)) (t : Bool) (q : t ≡ handlePartsValid (h .mode) (h .pointer) (lentOf h f)) where
+  module _ (f : Numbers) (s : f ≡ numbersOf (h .view)) (t : Bool) (q : t ≡ handlePartsValid (h .mode) (h .pointer) (viewOfParts h f)) where
     set-valid : t ≡ handleValid h
     set-valid = handle-judged h f s t q
 
@@ -71,7 +71,7 @@ module _ (h : Handle) (representation : List ℕ) (v : PaperView) where
           λ i. record { refusal = r i; count = 0; handle = (ap (withView h) w ∙ sym g) i }
 
 -- the same, with the signed numbers as the machine reads them
-module _ (h : Handle) (representation : List ℕ) (d : ℤ) (ew : List ℕ) (ed : List ℤ) (ex : ℤ) (fw : List ℕ) (fd : List ℤ) (fx : ℤ) (sd : SFits w64 d) (sx : SFits w64 ex) (sf : SFits w64 fx) (f : Numbers) (s : f ≡ numbersOf (h .view)) (t : Bool) (q : t ≡ handlePartsValid (h .mode) (h .pointer) (lentOf h f)) (n : not t ≡ false) (made : Accepted) (a : AcceptedAs (h .mode) representation (viewOfTypes (toZ w64 (ofZ w64 d)) (typeOfLists ew ed (toZ w64 (ofZ w64 ex))) (typeOfLists fw fd (toZ w64 (ofZ w64 fx)))) made) where
+module _ (h : Handle) (representation : List ℕ) (d : ℤ) (ew : List ℕ) (ed : List ℤ) (ex : ℤ) (fw : List ℕ) (fd : List ℤ) (fx : ℤ) (sd : SFits w64 d) (sx : SFits w64 ex) (sf : SFits w64 fx) (f : Numbers) (s : f ≡ numbersOf (h .view)) (t : Bool) (q : t ≡ handlePartsValid (h .mode) (h .pointer) (viewOfParts h f)) (n : not t ≡ false) (made : Accepted) (a : AcceptedAs (h .mode) representation (viewOfTypes (toZ w64 (ofZ w64 d)) (typeOfLists ew ed (toZ w64 (ofZ w64 ex))) (typeOfLists fw fd (toZ w64 (ofZ w64 fx)))) made) where
   lent-is : AcceptedAs (h .mode) representation (viewOfTypes d (typeOfLists ew ed ex) (typeOfLists fw fd fx)) made
   lent-is = rw (toZ-ofZ sd, toZ-ofZ sx, toZ-ofZ sf) at a
 
@@ -83,7 +83,7 @@ module _ (h : Handle) (representation : List ℕ) (d : ℤ) (ew : List ℕ) (ed 
 
 -- ---- place
 
-module _ (h : Handle) (o : ℤ) (f : Numbers) (s : f ≡ numbersOf (h .view)) (t : Bool) (q : t ≡ handlePartsValid (h .mode) (h .pointer) (lentOf h f)) where
+module _ (h : Handle) (o : ℤ) (f : Numbers) (s : f ≡ numbersOf (h .view)) (t : Bool) (q : t ≡ handlePartsValid (h .mode) (h .pointer) (viewOfParts h f)) where
   place-valid : t ≡ handleValid h
   place-valid = handle-judged h f s t q
 
@@ -104,7 +104,7 @@ module _ (h : Handle) (o : ℤ) (f : Numbers) (s : f ≡ numbersOf (h .view)) (t
 
 -- ---- reverse
 
-module _ (h : Handle) (b : ℕ) (f : Numbers) (s : f ≡ numbersOf (h .view)) (t : Bool) (q : t ≡ handlePartsValid (h .mode) (h .pointer) (lentOf h f)) where
+module _ (h : Handle) (b : ℕ) (f : Numbers) (s : f ≡ numbersOf (h .view)) (t : Bool) (q : t ≡ handlePartsValid (h .mode) (h .pointer) (viewOfParts h f)) where
   reverse-valid : t ≡ handleValid h
   reverse-valid = handle-judged h f s t q
 
@@ -117,7 +117,7 @@ module _ (h : Handle) (b : ℕ) (f : Numbers) (s : f ≡ numbersOf (h .view)) (t
     unfolding reverseAnswer reverseRefusal check granted
     reverse-mode m = rw (unflag-true t _ reverse-valid n, unflag-false u _ a m)
 
-    pub reverse-done : not u ≡ false → (o : Owner) → o ≡ ownerOf (paper (lentOf h f)) b → record { refusal = 0; count = 0; handle = h; owner = o } ≡ reverseAnswer h b
+    pub reverse-done : not u ≡ false → (o : Owner) → o ≡ ownerOf (paper (viewOfParts h f)) b → record { refusal = 0; count = 0; handle = h; owner = o } ≡ reverseAnswer h b
     unfolding reverseAnswer reverseRefusal check granted viewOf
     reverse-done m o e =
         let w = e ∙ ap (λ (x : View). ownerOf (paper x) b) (lent-same h f s) in
@@ -125,7 +125,7 @@ module _ (h : Handle) (b : ℕ) (f : Numbers) (s : f ≡ numbersOf (h .view)) (t
 
 -- ---- end
 
-module _ (h : Handle) (len : ℕ) (r : FileRecord) (f : Numbers) (s : f ≡ numbersOf (h .view)) (t : Bool) (q : t ≡ filePartsValid (h .mode) (h .pointer) (lentOf h f) len (r .size)) where
+module _ (h : Handle) (len : ℕ) (r : FileRecord) (f : Numbers) (s : f ≡ numbersOf (h .view)) (t : Bool) (q : t ≡ filePartsValid (h .mode) (h .pointer) (viewOfParts h f) len (r .size)) where
   end-valid : t ≡ fileValid h len r
   end-valid = file-judged h f s len r t q
 

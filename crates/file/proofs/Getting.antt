@@ -31,7 +31,7 @@ use Rattle.file.specs.Handles.{viewOf, handleValid}
 use Rattle.file.specs.Refusals.{getViewRefusal}
 use Rattle.file.specs.Answers.{getViewAs, getViewAnswer, shapeGot, widthsFilled, displacementsFilled, GotView}
 use Rattle.file.proofs.Checking.{handle-view}
-use Rattle.file.proofs.Lending.{lentOf, lent-same}
+use Rattle.file.proofs.Lending.{viewOfParts, lent-same}
 
 -- ---- the refusals
 
@@ -42,7 +42,7 @@ entries-fit v k =
 
 -- the checks on the numbers that are lent are those of the call: the record's entry counts are those of the view on paper
 module _ (h : Handle) (f : Numbers) (s : f ≡ numbersOf (h .view)) (ew ed fw fd : ℕ) where
-  pub give-checked : getViewPartsRefusal (h .mode) (h .pointer) (lentOf h f) ew ed fw fd ≡ getViewRefusal h ew ed fw fd
+  pub give-checked : getViewPartsRefusal (h .mode) (h .pointer) (viewOfParts h f) ew ed fw fd ≡ getViewRefusal h ew ed fw fd
   unfolding getViewPartsRefusal getViewRefusal handlePartsValid handleValid listsLong viewOf
   give-checked = rw (paper-entries (h .view), paper-file-entries (h .view)) (ap (λ (v : View). getViewPartsRefusal (h .mode) (h .pointer) v ew ed fw fd) (lent-same h f s))
 
@@ -123,19 +123,19 @@ module _ (h : Handle) (ew : List ℕ) (ed : List ℤ) (fw : List ℕ) (fd : List
         }
 
 -- the same, by the check on what is lent
-module _ (h : Handle) (ew : List ℕ) (ed : List ℤ) (fw : List ℕ) (fd : List ℤ) (f : Numbers) (s : f ≡ numbersOf (h .view)) (n : ℕ) (q : n ≡ getViewPartsRefusal (h .mode) (h .pointer) (lentOf h f) (length ew) (length ed) (length fw) (length fd)) where
+module _ (h : Handle) (ew : List ℕ) (ed : List ℤ) (fw : List ℕ) (fd : List ℤ) (f : Numbers) (s : f ≡ numbersOf (h .view)) (n : ℕ) (q : n ≡ getViewPartsRefusal (h .mode) (h .pointer) (viewOfParts h f) (length ew) (length ed) (length fw) (length fd)) where
   e : n ≡ getViewRefusal h (length ew) (length ed) (length fw) (length fd)
   e = q ∙ give-checked h f s (length ew) (length ed) (length fw) (length fd)
 
   pub lent-valid : n ≡ 0 → Valid (paper (h .view))
   lent-valid z = give-valid h ew ed fw fd n e z
 
-  pub lent-ready : n ≡ 0 → Ready (paper (lentOf h f)) ew ed fw fd
+  pub lent-ready : n ≡ 0 → Ready (paper (viewOfParts h f)) ew ed fw fd
   lent-ready z = rw (lent-same h f s) (give-ready h ew ed fw fd n e z)
 
   module _ (r : GetViewAnswer) (y : r ≡ getViewAs n h) where
     pub lent-none : (n ≡ 0 → ⊥) → GotView h ew ew ed ed fw fw fd fd r
     lent-none z = gave-none h ew ed fw fd n e r y z
 
-    pub lent-gave : n ≡ 0 → (ew' : List ℕ) (ed' : List ℤ) (fw' : List ℕ) (fd' : List ℤ) → TypemapsFilled (paper (lentOf h f)) ew ew' ed ed' fw fw' fd fd' → GotView h ew ew' ed ed' fw fw' fd fd' r
+    pub lent-gave : n ≡ 0 → (ew' : List ℕ) (ed' : List ℤ) (fw' : List ℕ) (fd' : List ℤ) → TypemapsFilled (paper (viewOfParts h f)) ew ew' ed ed' fw fw' fd fd' → GotView h ew ew' ed ed' fw fw' fd fd' r
     lent-gave z ew' ed' fw' fd' g = gave h ew ed fw fd n e r y z ew' ed' fw' fd' (rw (lent-same h f s) at g)

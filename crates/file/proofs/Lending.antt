@@ -17,12 +17,12 @@ use Rattle.file.specs.Handles.{viewOf, handleValid, fileValid}
 use Rattle.file.proofs.Checking.{handle-view, file-valid-view, size-limit}
 
 -- the view that is lent
-abbrev pub lentOf : Handle → Numbers → View
-lentOf h f = viewWith f (h .view .etype .widths) (h .view .etype .displacements) (h .view .filetype .origins)
+abbrev pub viewOfParts : Handle → Numbers → View
+viewOfParts h f = viewWith f (h .view .etype .widths) (h .view .etype .displacements) (h .view .filetype .origins)
 
 module _ (h : Handle) (f : Numbers) (s : f ≡ numbersOf (h .view)) where
-  pub lent-same : lentOf h f ≡ h .view
-  lent-same = ap (lentOf h) s
+  pub lent-same : viewOfParts h f ≡ h .view
+  lent-same = ap (viewOfParts h) s
 
   lent-tiled : Valid (paper (h .view)) → Tiled f
   lent-tiled k = rw s (tiled (h .view) k)
@@ -30,7 +30,7 @@ module _ (h : Handle) (f : Numbers) (s : f ≡ numbersOf (h .view)) where
   lent-origins : Valid (paper (h .view)) → OriginsLow f (h .view .filetype .origins)
   lent-origins k = rw s (origins-low (h .view) k)
 
-  module _ (t : Bool) (q : t ≡ handlePartsValid (h .mode) (h .pointer) (lentOf h f)) where
+  module _ (t : Bool) (q : t ≡ handlePartsValid (h .mode) (h .pointer) (viewOfParts h f)) where
     pub handle-judged : t ≡ handleValid h
     unfolding handlePartsValid handleValid viewOf
     handle-judged = q ∙ ap (handlePartsValid (h .mode) (h .pointer)) lent-same
@@ -39,7 +39,7 @@ module _ (h : Handle) (f : Numbers) (s : f ≡ numbersOf (h .view)) where
       valid : Valid (paper (h .view))
       valid = handle-view h (unflag-true t _ handle-judged n)
 
-      pub handle-lent : Valid (paper (lentOf h f))
+      pub handle-lent : Valid (paper (viewOfParts h f))
       handle-lent = rw lent-same valid
 
       pub handle-tiled : Tiled f
@@ -48,7 +48,7 @@ module _ (h : Handle) (f : Numbers) (s : f ≡ numbersOf (h .view)) where
       pub handle-origins : OriginsLow f (h .view .filetype .origins)
       handle-origins = lent-origins valid
 
-  module _ (len : ℕ) (r : FileRecord) (t : Bool) (q : t ≡ filePartsValid (h .mode) (h .pointer) (lentOf h f) len (r .size)) where
+  module _ (len : ℕ) (r : FileRecord) (t : Bool) (q : t ≡ filePartsValid (h .mode) (h .pointer) (viewOfParts h f) len (r .size)) where
     pub file-judged : t ≡ fileValid h len r
     unfolding filePartsValid handlePartsValid fileValid handleValid viewOf
     file-judged = q ∙ ap (λ (v : View). filePartsValid (h .mode) (h .pointer) v len (r .size)) lent-same

@@ -29,7 +29,7 @@ use Rattle.file.specs.Refusals.{accessRefusal, readRefusal}
 use Rattle.file.specs.Answers.{readCount, readAtAnswer, readBuffer, readAnswer, ReadAt, ReadNext}
 use Rattle.file.specs.Parts.{readRefused}
 use Rattle.file.proofs.Accessing.{past-valid, start-same}
-use Rattle.file.proofs.Lending.{lentOf, lent-same}
+use Rattle.file.proofs.Lending.{viewOfParts, lent-same}
 
 -- its checks are those on the handle's parts
 read-checked : (h : Handle) (len : ℕ) (r : FileRecord) (o : ℤ) (c room : ℕ) → readPartsRefusal (h .mode) (h .pointer) (h .view) len (r .size) o c room ≡ readRefusal h len r o c room
@@ -38,7 +38,7 @@ read-checked h len r o c room = refl
 
 -- ---- at an offset
 
-module _ (h : Handle) (file : List ℕ) (r : FileRecord) (o : ℤ) (c : ℕ) (before after : List ℕ) (f : Numbers) (s : f ≡ numbersOf (h .view)) (d : ReadOutcome) (made : ReadMade (h .mode) (h .pointer) (lentOf h f) file (r .size) o c before after d) where
+module _ (h : Handle) (file : List ℕ) (r : FileRecord) (o : ℤ) (c : ℕ) (before after : List ℕ) (f : Numbers) (s : f ≡ numbersOf (h .view)) (d : ReadOutcome) (made : ReadMade (h .mode) (h .pointer) (viewOfParts h f) file (r .size) o c before after d) where
   read : ReadMade (h .mode) (h .pointer) (h .view) file (r .size) o c before after d
   read = rw (lent-same h f s) at made
 
@@ -82,7 +82,7 @@ module _ (h : Handle) (file : List ℕ) (r : FileRecord) (c : ℕ) (before : Lis
     buffer = d .buffer ∙ ap (λ (x : ℤ). readBuffer h file r x c before) e ∙ start-buffer;
   }
 
-  module _ (after : List ℕ) (f : Numbers) (s : f ≡ numbersOf (h .view)) (d : ReadOutcome) (b : Offset) (e : b .0 ≡ pointerOffset h) (made : ReadMade (h .mode) (h .pointer) (lentOf h f) file (r .size) (b .0) c before after d) where
+  module _ (after : List ℕ) (f : Numbers) (s : f ≡ numbersOf (h .view)) (d : ReadOutcome) (b : Offset) (e : b .0 ≡ pointerOffset h) (made : ReadMade (h .mode) (h .pointer) (viewOfParts h f) file (r .size) (b .0) c before after d) where
     at-pointer : ReadAt h file r (pos (h .pointer)) c before after (record { refusal = d .refusal; count = d .count; handle = h; file = r })
     at-pointer = start-read after _ (b .0) e (at-answered h file r (b .0) c before after f s d made)
 

@@ -34,7 +34,7 @@ use Rattle.file.specs.Refusals.{seekTarget, seekRefusal}
 use Rattle.file.specs.Answers.{seekAnswer}
 use Rattle.file.specs.Parts.{seekRefused, baseOn}
 use Rattle.file.proofs.Checking.{file-valid-view}
-use Rattle.file.proofs.Lending.{lentOf, file-judged}
+use Rattle.file.proofs.Lending.{viewOfParts, file-judged}
 
 -- ---- the base
 
@@ -65,7 +65,7 @@ target-is : (h : Handle) (r : FileRecord) (z : ℤ) (whence : ℕ) → Valid (pa
 unfolding seekTarget baseOn viewOf
 target-is h r z whence k = rw (end-is (h .view) k (r .size)) (picked (eqb whence 0) (eqb whence 1) (h .pointer) (endOfFile (paper (h .view)) (r .size)) z)
 
-module _ (h : Handle) (len : ℕ) (r : FileRecord) (z : ℤ) (whence : ℕ) (f : Numbers) (s : f ≡ numbersOf (h .view)) (t : Bool) (q : t ≡ filePartsValid (h .mode) (h .pointer) (lentOf h f) len (r .size)) where
+module _ (h : Handle) (len : ℕ) (r : FileRecord) (z : ℤ) (whence : ℕ) (f : Numbers) (s : f ≡ numbersOf (h .view)) (t : Bool) (q : t ≡ filePartsValid (h .mode) (h .pointer) (viewOfParts h f) len (r .size)) where
   k : t ≡ fileValid h len r
   k = file-judged h f s len r t q
 

@@ -32,7 +32,7 @@ use Rattle.file.specs.Refusals.{accessRefusal, writeRefusal}
 use Rattle.file.specs.Answers.{writeAtAnswer, writtenFile, writeAnswer, WriteAt, WriteNext}
 use Rattle.file.specs.Parts.{writeRefused}
 use Rattle.file.proofs.Accessing.{past-valid, start-same}
-use Rattle.file.proofs.Lending.{lentOf, lent-same}
+use Rattle.file.proofs.Lending.{viewOfParts, lent-same}
 
 -- ---- the checks
 
@@ -61,7 +61,7 @@ write-checked h len r o c room = refl
 
 -- ---- at an offset
 
-module _ (h : Handle) (file after : List ℕ) (r : FileRecord) (o : ℤ) (c : ℕ) (buf : List ℕ) (f : Numbers) (s : f ≡ numbersOf (h .view)) (d : WriteOutcome) (made : WriteMade (h .mode) (h .pointer) (lentOf h f) file after (r .size) o c buf d) where
+module _ (h : Handle) (file after : List ℕ) (r : FileRecord) (o : ℤ) (c : ℕ) (buf : List ℕ) (f : Numbers) (s : f ≡ numbersOf (h .view)) (d : WriteOutcome) (made : WriteMade (h .mode) (h .pointer) (viewOfParts h f) file after (r .size) o c buf d) where
   write : WriteMade (h .mode) (h .pointer) (h .view) file after (r .size) o c buf d
   write = rw (lent-same h f s) at made
 
@@ -107,7 +107,7 @@ module _ (h : Handle) (file : List ℕ) (r : FileRecord) (c : ℕ) (buf : List �
   unfolding writtenFile granted
   start-bytes = start-same h (λ (z : ℤ). writtenFile h file r z c buf) (λ l a b. rw (past-refused l a, past-refused l b))
 
-  module _ (after : List ℕ) (f : Numbers) (s : f ≡ numbersOf (h .view)) (d : WriteOutcome) (b : Offset) (e : b .0 ≡ pointerOffset h) (made : WriteMade (h .mode) (h .pointer) (lentOf h f) file after (r .size) (b .0) c buf d) where
+  module _ (after : List ℕ) (f : Numbers) (s : f ≡ numbersOf (h .view)) (d : WriteOutcome) (b : Offset) (e : b .0 ≡ pointerOffset h) (made : WriteMade (h .mode) (h .pointer) (viewOfParts h f) file after (r .size) (b .0) c buf d) where
     at : WriteAt h file after r (b .0) c buf (record { refusal = d .refusal; count = d .count; handle = h; file = record { size = d .size } })
     at = at-answered h file after r (b .0) c buf f s d made
 

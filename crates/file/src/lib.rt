@@ -40,7 +40,7 @@ impl Handle {
 
     pub const MAX_FILE_LENGTH: u64 = View::MAX_FILE_SIZE;
 
-    // What a seek adds its offset to: nothing, the pointer or the end of file.
+    // A seek's whence.
     pub const SEEK_SET: u64 = 0;
 
     pub const SEEK_CURRENT: u64 = 1;
@@ -308,7 +308,10 @@ impl Handle {
         ensures { λ r. ⌜ r ≡ openAnswer mode ⌝ }
     {
         if Handle::MODE_BOTH < mode {
-            return open_answer(Handle::REFUSED_OPEN_MODE, Handle::fresh(0));
+            return open_answer(
+                Handle::REFUSED_OPEN_MODE,
+                Handle::fresh(Handle::MODE_UNNAMED),
+            );
         }
         open_answer(0, Handle::fresh(mode_got(mode)))
     }

@@ -71,7 +71,7 @@ module _ (v : PaperView) (file : List ℕ) (o m : ℕ) (buffer : List ℕ) (fits
     rest = λ i l. front-past _ (m * dataSize v) buffer 0 i l;
   }
 
-  -- and no other buffer does so: each of its bytes is either moved or valid
+  -- and no other buffer does so: each of its bytes is either moved or left as it was
   pub read-only : (after : List ℕ) → IsRead v file o m buffer after → after ≡ readInto v file o m buffer
   read-only after h = ext-getD 0 after (readInto v file o m buffer) (h .long ∙ sym (read-is .long)) same
     where

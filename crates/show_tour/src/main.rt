@@ -7,6 +7,7 @@ use file::ReadAnswer;
 use file::ReverseAnswer;
 use file::SeekAnswer;
 use file::SetViewAnswer;
+use file::TypeShape;
 use file::WriteAnswer;
 use libc::STDOUT_FILENO;
 use view::BytePos;
@@ -78,6 +79,14 @@ fn show_read(text: &[u8], a: ReadAnswer) {
 
 fn show_write(text: &[u8], a: WriteAnswer) {
     show_transfer(text, a.refusal, a.count, a.handle.pointer, a.file);
+}
+
+// Prints a type of one entry, as get_view gives it.
+fn show_type(text: &[u8], shape: TypeShape, width: u64, displacement: i64) {
+    tell(text, shape.entries);
+    tell(b", width ", width);
+    tell(b" at ", view::natural(displacement));
+    tell(b", extent ", shape.extent);
 }
 
 // Prints the answer of a reverse lookup.
@@ -164,16 +173,8 @@ fn get_view() {
     let back = h.get_view(&mut ew, &mut ed, &mut fw, &mut fd);
     tell(b"get_view, P1: refusal ", back.refusal);
     tell(b", displacement ", back.displacement);
-    let etype = back.etype;
-    tell(b"\n  etype: entries ", etype.entries);
-    tell(b", width ", ew[0]);
-    tell(b" at ", view::natural(ed[0]));
-    tell(b", extent ", etype.extent);
-    let filetype = back.filetype;
-    tell(b"\n  filetype: entries ", filetype.entries);
-    tell(b", width ", fw[0]);
-    tell(b" at ", view::natural(fd[0]));
-    tell(b", extent ", filetype.extent);
+    show_type(b"\n  etype: entries ", back.etype, ew[0], ed[0]);
+    show_type(b"\n  filetype: entries ", back.filetype, fw[0], fd[0]);
     say(b"\n");
 }
 
@@ -233,6 +234,12 @@ fn seek() {
     let h = set.handle;
     show_seek(b"seek by -5", h.seek(&plan, rec, -5, Handle::SEEK_CURRENT));
     show_seek(b"seek by -6", h.seek(&plan, rec, -6, Handle::SEEK_CURRENT));
+    seek_far(h, rec);
+}
+
+// The largest and the smallest offset, from the end, and a whence that is none.
+fn seek_far(h: Handle, rec: FileRecord) {
+    let plan = [0u8; 20];
     let largest = h.seek(&plan, rec, 9223372036854775807, Handle::SEEK_CURRENT);
     show_seek(b"seek by the largest offset", largest);
     let smallest = h.seek(&plan, rec, -9223372036854775808, Handle::SEEK_CURRENT);

@@ -1,7 +1,8 @@
 -- How the code reads numbers and headers: from the high byte down, with no wrap, and with 0 for bytes past the end.
-use Prim.Native.Nat.{ℕ, zero, suc, _+_, _-_, _*_, _/_, _^_, _≤_, _<_}
+use Prim.Native.Nat.{ℕ, zero, suc, _+_, _-_, _*_, _/_, _^_, _≤_, _<_, min}
 use mathlib.Core.Bool.{true}
 use mathlib.Core.List.{List}
+use mathlib.Core.Logic.{⊎-elim}
 use mathlib.Core.Path.{_≡_, refl, sym, ap, _∙_, subst}
 use native.Mathlib.Nat.{pow-suc, pow-le-pow-right}
 use native.Mathlib.Omega.{arith}
@@ -14,7 +15,7 @@ use mir.Syntax.{w64}
 use mir.Val.{Fits, SFits, toZ, ofZ, hbits}
 use mir.Facts.{toZ-pos, toZ-ofZ}
 use Rattle.laws.specs.Lists.{nth}
-use Rattle.laws.proofs.Booleans.{either-left, either-right, either-no}
+use Rattle.laws.proofs.Booleans.{either-left, either-right, either-no, lt-or-le}
 use Rattle.tagged_fields.specs.declared.Field.the-variants.{Whole, Cut, End}
 use Rattle.tagged_fields.specs.Fields.{little, numberAt, signedOf, bodyLength, isCut, fieldAt}
 
@@ -91,9 +92,13 @@ number-past s i l = sym (little-past s (8 * i) 8 (omega arith))
 
 -- ---- the bytes after the first n numbers of a body
 
--- none where the numbers run past the end
-pub bytes-past : (s : List ℕ) (n : ℕ) → length s / 8 < n → drop (length s) s ≡ drop (8 * n) s
-bytes-past s n h = drop-of-length-le s {i = length s} (omega arith) ∙ sym (drop-of-length-le s {i = 8 * n} (omega arith))
+-- what stands after the first n numbers: nothing where they run past the end
+pub bytes-rest : (s : List ℕ) (n r : ℕ) → r ≡ min (8 * n) (length s) → drop r s ≡ drop (8 * n) s
+bytes-rest s n r e =
+    ⊎-elim
+    (λ (l : 8 * n < length s). let h : r ≡ 8 * n = omega arith in ap (λ (k : ℕ). drop k s) h)
+    (λ (l : length s ≤ 8 * n). drop-of-length-le s {i = r} (omega arith) ∙ sym (drop-of-length-le s {i = 8 * n} l))
+    (lt-or-le (8 * n) (length s))
 
 -- ---- a field, along the code's tests
 

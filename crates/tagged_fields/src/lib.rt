@@ -1,7 +1,7 @@
 // Document 01's tagged fields: what stands at a place of a run of them, and the numbers of a body.
 ghost use mathlib.Core.Path.{_≡_};
-ghost use Prim.Native.Nat.{_+_, _*_, _^_, _≤_, _<_};
-ghost use lib.ListN.{length, drop};
+ghost use Prim.Native.Nat.{_+_, _*_, _^_, _≤_, _<_, min};
+ghost use lib.ListN.{length};
 ghost use Rattle.laws.specs.Lists.{nth, front};
 ghost use Rattle.tagged_fields.specs.Fields.{numberBytes, little, numberAt, signedOf, signedAt, numberFrom, signedFrom, fieldAt};
 
@@ -139,7 +139,7 @@ pub fn signed_into(body: &[u8], from: usize, n: usize, out: &mut [i64])
 
 // Where the bytes after the first `n` numbers of a body begin; its end where there are none.
 pub fn bytes_after(body: &[u8], n: usize) -> usize
-    ensures { λ r. ⌜ (r ≤ length (now (body .entry))) × (drop r (now (body .entry)) ≡ drop (numberBytes * n) (now (body .entry))) ⌝ }
+    ensures { λ r. ⌜ r ≡ min (numberBytes * n) (length (now (body .entry))) ⌝ }
 {
     if body.len() / NUMBER_BYTES < n {
         return body.len();

@@ -35,7 +35,7 @@ pub fn capped(n: u64, most: usize) -> usize
     laws::smaller(n, most as u64) as usize
 }
 
-// Number `i` of a body as the length of a lent list or of a buffer.
+// Number `i` of a body as a length, at most `most`: of a lent list, of a buffer, and of a record's body by its header.
 pub fn length_at(body: &[u8], i: usize, most: usize) -> usize
     ensures { λ r. ⌜ r ≤ most ⌝ }
 {

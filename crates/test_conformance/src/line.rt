@@ -10,7 +10,7 @@ pub struct Line {
     pub others: [u64; 5],
     pub handle: Handle,
     pub file: FileRecord,
-    pub lent: [u64; 4],
+    pub sums: [u64; 4],
 }
 
 impl Line {
@@ -20,7 +20,7 @@ impl Line {
         others: [u64; 5],
         handle: Handle,
         rec: FileRecord,
-        lent: [u64; 4],
+        sums: [u64; 4],
     ) -> Line {
         Line {
             refusal: refusal,
@@ -28,7 +28,7 @@ impl Line {
             others: others,
             handle: handle,
             file: rec,
-            lent: lent,
+            sums: sums,
         }
     }
 }
@@ -65,9 +65,9 @@ fn handle_sum(h: Handle) -> u64 {
 // The checksums of four lent lists.
 pub fn list_sums(ew: &[u64], ed: &[i64], fw: &[u64], fd: &[i64]) -> [u64; 4] {
     let a = checksum::numbers(ew);
-    let b = checksum::offsets(ed);
+    let b = checksum::signed(ed);
     let c = checksum::numbers(fw);
-    let d = checksum::offsets(fd);
+    let d = checksum::signed(fd);
     [a, b, c, d]
 }
 
@@ -82,12 +82,12 @@ fn print_numbers(numbers: &[u64]) {
 }
 
 // Prints a line of these parts: refusal, count and the other numbers; pointer and checksum of the handle; size and checksum of each file; the checksums of what was lent.
-fn print_parts(tag: u8, answer: [u64; 7], handle: [u64; 2], files: [u64; 4], lent: [u64; 4]) {
+fn print_parts(tag: u8, answer: [u64; 7], handle: [u64; 2], files: [u64; 4], sums: [u64; 4]) {
     io::print_decimal(STDOUT_FILENO, tag as u64);
     print_numbers(&answer);
     print_numbers(&handle);
     print_numbers(&files);
-    print_numbers(&lent);
+    print_numbers(&sums);
     io::write_all(STDOUT_FILENO, b"\n");
 }
 
@@ -97,8 +97,8 @@ pub fn print_call(tag: u8, l: Line, files: [u64; 4]) {
     let answer = [l.refusal, l.count, o[0], o[1], o[2], o[3], o[4]];
     let handle = l.handle;
     let sum = handle_sum(handle);
-    let lent = l.lent;
-    print_parts(tag, answer, [handle.pointer, sum], files, lent);
+    let sums = l.sums;
+    print_parts(tag, answer, [handle.pointer, sum], files, sums);
 }
 
 // Prints the line of a record that makes no call.

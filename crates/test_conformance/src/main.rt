@@ -94,6 +94,7 @@ fn fill_file(bytes: &mut [u8], file: usize, file_length: u64, seed: u64)
 }
 
 impl Driver {
+    // Each slot has the handle of a refused open at first.
     fn new() -> Driver {
         let none = Handle::open(4);
         let handle = none.handle;

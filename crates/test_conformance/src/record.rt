@@ -59,9 +59,14 @@ fn forged_view(body: &[u8]) -> View {
     let mut widths = [0u64; View::MAX_ETYPE_ENTRIES as usize];
     let mut displacements = [0u64; View::MAX_ETYPE_ENTRIES as usize];
     let mut origins = [0u64; View::MAX_INSTANCES as usize];
-    tagged_fields::numbers_into(body, 5, 8, &mut widths);
-    tagged_fields::numbers_into(body, 13, 8, &mut displacements);
-    tagged_fields::numbers_into(body, 23, 64, &mut origins);
+    tagged_fields::numbers_into(body, 5, View::MAX_ETYPE_ENTRIES as usize, &mut widths);
+    tagged_fields::numbers_into(
+        body,
+        13,
+        View::MAX_ETYPE_ENTRIES as usize,
+        &mut displacements,
+    );
+    tagged_fields::numbers_into(body, 23, View::MAX_INSTANCES as usize, &mut origins);
     let etype = Etype {
         entries: tagged_fields::number(body, 4),
         widths: widths,
@@ -207,8 +212,8 @@ fn end(h: Handle, file: &[u8], rec: FileRecord) -> Line {
 
 // The line of a seek, a read or a write, with the checksum of its buffer.
 fn moved(refusal: u64, count: u64, handle: Handle, rec: FileRecord, sum: u64) -> Line {
-    let lent = [sum, 0, 0, 0];
-    Line::new(refusal, count, [0u64; 5], handle, rec, lent)
+    let sums = [sum, 0, 0, 0];
+    Line::new(refusal, count, [0u64; 5], handle, rec, sums)
 }
 
 // Tag 40.

@@ -2,6 +2,7 @@
 use mathlib.Core.Path.{sym}
 use lib.Seq.{length-take-le}
 use borrow.Author.Needs.{needs}
+use Rattle.tagged_fields.proofs.Bytes.{bytes-rest}
 use Rattle.bench_rounds.proofs.Setting.{set-view-is}
 use Rattle.bench_rounds.proofs.set_view.Statement.{statement}
 use Rattle.bench_rounds.proofs.set_view.Tie as tie
@@ -29,7 +30,7 @@ returns c =
     let n3 = n4 .before in
     let n2 = n3 .before in
     let n1 = n2 .before in
-    set-view-is _ _ _ _ _ (rest .bytes-after .result) _ _ _ _ _ (n1 .list-length .ensures) (n2 .list-length2 .ensures) (n3 .list-length3 .ensures) (n4 .list-length4 .ensures) (rest .bytes-after .ensures .1) (w .numbers-into .ensures) (g .signed-into .ensures) (f .numbers-into2 .ensures) (d .signed-into2 .ensures) (c .set-lists .ensures)
+    set-view-is _ _ _ _ _ (rest .bytes-after .result) _ _ _ _ _ (n1 .list-length .ensures) (n2 .list-length2 .ensures) (n3 .list-length3 .ensures) (n4 .list-length4 .ensures) (bytes-rest _ _ _ (rest .bytes-after .ensures)) (w .numbers-into .ensures) (g .signed-into .ensures) (f .numbers-into2 .ensures) (d .signed-into2 .ensures) (c .set-lists .ensures)
 
 pub set-view-spec : {M : Type 1} → statement M
 set-view-spec =

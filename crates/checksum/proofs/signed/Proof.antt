@@ -1,12 +1,12 @@
--- `offsets` takes the checksum number by number. Assumes nothing.
+-- `signed` takes the checksum number by number. Assumes nothing.
 use Prim.Native.Nat.{_-_}
 use lib.IntN.{pos}
 use lib.ListN.{length, getD}
-use Rattle.checksum.specs.Digests.{code, signedDigest}
+use Rattle.checksum.specs.Checksums.{code, signedChecksum}
 use Rattle.checksum.proofs.Folding.{Folded, folding}
 use Rattle.checksum.proofs.Coding.{code-read}
-use Rattle.checksum.proofs.offsets.Statement.{statement}
-use Rattle.checksum.proofs.offsets.Tie as tie
+use Rattle.checksum.proofs.signed.Statement.{statement}
+use Rattle.checksum.proofs.signed.Tie as tie
 
 abbrev Inv-loop : tie.InvT-loop
 Inv-loop s d₀ i₀ d i = Folded (λ k. code (getD s k (pos 0))) i (length s) d
@@ -39,11 +39,11 @@ loop-again : tie.Need-loop-again Inv-loop μ-loop
 loop-again c = search (folding, code-read)
 
 returns : tie.Need-returns Inv-loop μ-loop
-unfolding signedDigest
+unfolding signedChecksum
 returns c = search (folding, code-read)
 
-pub offsets-spec : {M : Type 1} → statement M
-offsets-spec =
+pub signed-spec : {M : Type 1} → statement M
+signed-spec =
     tie.close
     (tie.spec
     Inv-loop

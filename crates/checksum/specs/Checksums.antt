@@ -14,9 +14,9 @@ unfoldable pub fed : ℕ → ℕ → ℕ
 fed s x = (s * 65599 + x % modulus + 1) % modulus
 
 -- "it begins at 7": the checksum of f 0, f 1 and so on, n numbers
-unfoldable pub digestOf : (ℕ → ℕ) → ℕ → ℕ
-digestOf f zero = 7
-digestOf f (suc n) = fed (digestOf f n) (f n)
+unfoldable pub checksumOf : (ℕ → ℕ) → ℕ → ℕ
+checksumOf f zero = 7
+checksumOf f (suc n) = fed (checksumOf f n) (f n)
 
 -- "A signed number x below 0 counts there as 2^63 - 1 - x"
 unfoldable pub code : ℤ → ℕ
@@ -24,8 +24,8 @@ code (pos n) = n
 code (negsuc n) = 9223372036854775808 + n
 
 -- of a list of numbers, and of a list of signed ones
-unfoldable pub listDigest : List ℕ → ℕ
-listDigest l = digestOf (nth l) (length l)
+unfoldable pub listChecksum : List ℕ → ℕ
+listChecksum l = checksumOf (nth l) (length l)
 
-unfoldable pub signedDigest : List ℤ → ℕ
-signedDigest l = digestOf (λ i. code (getD l i (pos 0))) (length l)
+unfoldable pub signedChecksum : List ℤ → ℕ
+signedChecksum l = checksumOf (λ i. code (getD l i (pos 0))) (length l)
