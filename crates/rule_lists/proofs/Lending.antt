@@ -11,6 +11,7 @@ use lib.Signed.{mag}
 use mir.Syntax.{w64}
 use mir.Val.{SFits, toZ, ofZ, hbits}
 use mir.Facts.{toZ-ofZ}
+use Rattle.laws.specs.Checks.{also}
 use Rattle.laws.specs.Search.{all}
 use Rattle.laws.proofs.Booleans.{also-inv, also-yes, also-no, unflag-true, unflag-false}
 use Rattle.laws.proofs.Searching.{Passed, passed-fails, passed-holds}
@@ -65,11 +66,25 @@ module _ (z : ℤ) (t : Bool) (f : SFits w64 z) where
   pub displacement-no : t ≡ displacementAllowed (toZ w64 (ofZ w64 z)) → not t ≡ true → displacementAllowed z ≡ false
   displacement-no e n = unflag-false t _ (e ∙ ap displacementAllowed (toZ-ofZ f)) n
 
+  pub extent-is : t ≡ extentAllowed (toZ w64 (ofZ w64 z)) → t ≡ extentAllowed z
+  extent-is e = e ∙ ap extentAllowed (toZ-ofZ f)
+
   pub extent-yes : t ≡ extentAllowed (toZ w64 (ofZ w64 z)) → not t ≡ false → extentAllowed z ≡ true
-  extent-yes e n = unflag-true t _ (e ∙ ap extentAllowed (toZ-ofZ f)) n
+  extent-yes e n = unflag-true t _ (extent-is e) n
 
   pub extent-no : t ≡ extentAllowed (toZ w64 (ofZ w64 z)) → not t ≡ true → extentAllowed z ≡ false
-  extent-no e n = unflag-false t _ (e ∙ ap extentAllowed (toZ-ofZ f)) n
+  extent-no e n = unflag-false t _ (extent-is e) n
+
+-- the extents of both types
+module _ (x y : ℤ) (t : Bool) (f : SFits w64 x) (g : SFits w64 y) (e : t ≡ also (extentAllowed (toZ w64 (ofZ w64 x))) (extentAllowed (toZ w64 (ofZ w64 y)))) where
+  both : t ≡ also (extentAllowed x) (extentAllowed y)
+  both = e ∙ (λ i. also (extentAllowed (toZ-ofZ f i)) (extentAllowed (toZ-ofZ g i)))
+
+  pub extents-yes : not t ≡ false → also (extentAllowed x) (extentAllowed y) ≡ true
+  extents-yes n = unflag-true t _ both n
+
+  pub extents-no : not t ≡ true → also (extentAllowed x) (extentAllowed y) ≡ false
+  extents-no n = unflag-false t _ both n
 
 module _ (ws : List ℕ) (ds : List ℤ) (x : ℤ) (t : Bool) (e : t ≡ all (signedEntryFitsAt ws ds) (length ws)) where
   lent : t ≡ entriesAllowed (typeOfLists ws ds x)

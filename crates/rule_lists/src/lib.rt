@@ -1,7 +1,9 @@
 // The limits of lent lists and numbers: checks 2 to 6 of a set, each over both types, in document 01's order.
 ghost use mathlib.Core.Path.{_≡_};
 ghost use lib.ListN.{length};
+ghost use Rattle.laws.specs.Checks.{also};
 ghost use Rattle.laws.specs.Search.{all};
+ghost use Rattle.view.specs.Limits.{extentAllowed};
 ghost use Rattle.view.specs.Rules.{isNative};
 ghost use Rattle.rule_lists.specs.Lists.{typeOfLists, viewOfTypes};
 ghost use Rattle.rule_lists.specs.Parts.{signedEntryFitsAt, limitsRefusal};
@@ -26,6 +28,16 @@ fn is_native(representation: &[u8]) -> bool
         i += 1;
     }
     true
+}
+
+// Whether both types' extents are in range.
+fn extents_allowed(ex: i64, fx: i64) -> bool
+    ensures { λ r. ⌜ r ≡ also (extentAllowed ex) (extentAllowed fx) ⌝ }
+{
+    if !rule_limits::extent_allowed(ex) {
+        return false;
+    }
+    rule_limits::extent_allowed(fx)
 }
 
 // Whether every entry of a type is allowed.
@@ -60,8 +72,7 @@ pub fn limits_refusal(
     let native = is_native(representation);
     let placed = rule_limits::displacement_allowed(displacement);
     let counted = rule_limits::counts_allowed(ew.len(), ed.len(), fw.len(), fd.len());
-    let etype_extent = rule_limits::extent_allowed(ex);
-    let filetype_extent = rule_limits::extent_allowed(fx);
+    let extents = extents_allowed(ex, fx);
     if !native {
         return View::REFUSED_REPRESENTATION;
     }
@@ -71,10 +82,7 @@ pub fn limits_refusal(
     if !counted {
         return View::REFUSED_ENTRY_COUNT;
     }
-    if !etype_extent {
-        return View::REFUSED_EXTENT;
-    }
-    if !filetype_extent {
+    if !extents {
         return View::REFUSED_EXTENT;
     }
     if !entries_allowed(ew, ed) {
