@@ -1,20 +1,7 @@
 -- Rounds made one after another: what a loop over them keeps, and that it may end at a refusal.
-use Prim.Native.Nat.{ℕ, zero, suc, _+_, _≤_, _<_}
-use mathlib.Core.List.{List}
-use mathlib.Core.Logic.{⊎-elim}
-use mathlib.Core.Path.{_≡_, refl, sym, ap, _∙_}
-use native.Mathlib.Numerals.{add-one}
-use native.Mathlib.Omega.{arith}
-use borrow.Author.Needs.{needs}
-use lib.IntN.{ℤ}
-use lib.ListN.{length}
-use mir.Syntax.{w64}
-use mir.Val.{SFits, toZ, ofZ}
-use mir.Facts.{toZ-ofZ}
-use Rattle.laws.specs.Checks.{granted}
-use Rattle.laws.proofs.Booleans.{granted-yes, granted-no, lt-or-le}
+use Rattle.laws.proofs.Prelude.{ℕ, zero, suc, _+_, _≤_, _<_, _≡_, refl, sym, ap, _∙_, List, ⊎-elim, arith, add-one, length, ℤ, w64, SFits, toZ, ofZ, toZ-ofZ, needs, granted, granted-yes, granted-no, lt-or-le}
 use Rattle.file.specs.declared.Handle.{Handle}
-use Rattle.file.specs.declared.FileRecord.{FileRecord}
+use Rattle.handle.specs.declared.FileRecord.{FileRecord}
 use Rattle.file.specs.declared.SetViewAnswer.{SetViewAnswer}
 use Rattle.bench_rounds.specs.declared.Last.{Last}
 use Rattle.file.specs.declared.ReadAnswer.{ReadAnswer}
@@ -47,7 +34,7 @@ unfolding lastOf
 made-none access view size n a b e = record { reached = omega arith; room = refl; last = ap (λ (z : Last). round (z .refusal) (z .handle) (z .file) b) e }
 
 module _ (access : Round → Round) (s : Round) (n i : ℕ) (t : Round) (m : Made access s n i t) where
-  made-more : (t' : Round) → i < n → t .refusal ≡ 0 → length (t' .bytes) ≡ length (t .bytes) → t' ≡ access t → Made access s n (i + 1) t'
+  pub made-more : (t' : Round) → i < n → t .refusal ≡ 0 → length (t' .bytes) ≡ length (t .bytes) → t' ≡ access t → Made access s n (i + 1) t'
   unfolding lastOf
   made-more t' h z l e = record {
     reached = omega arith;
@@ -68,42 +55,36 @@ module _ (access : Round → Round) (s : Round) (n i : ℕ) (t : Round) (m : Mad
       (λ (l : i ≤ k). ap (λ (x : Round). granted (x .refusal) (access x) x) (stays z k l) ∙ granted-no (t .refusal) (access t) t z)
       (lt-or-le k i)
 
--- the end, for an offset o as the code holds it
-module _ (access : ℤ → Round → Round) (o : ℤ) (s : Round) (n i : ℕ) (t : Round) (f : SFits w64 o) (m : Made (access (toZ w64 (ofZ w64 o))) s n i t) where
-  left : lastOf (access (toZ w64 (ofZ w64 o))) n s ≡ t → Left (lastOf (access o) n s) (t .refusal) (t .bytes)
+-- the end, for an access as the code holds it, by the parts of what the last round leaves
+module _ (held access : Round → Round) (s : Round) (n i r : ℕ) (h : Handle) (f : FileRecord) (b : List ℕ) (m : Made held s n i (round r h f b)) (same : held ≡ access) where
+  left : lastOf held n s ≡ round r h f b → Left (lastOf access n s) r b
   left e =
-      let l : t ≡ lastOf (access o) n s = sym e ∙ ap (λ (z : ℤ). lastOf (access z) n s) (toZ-ofZ f) in
+      let l : round r h f b ≡ lastOf access n s = sym e ∙ ap (λ (x : Round → Round). lastOf x n s) same in
       record { refusal = ap (λ (x : Round). x .refusal) l; bytes = ap (λ (x : Round). x .bytes) l }
 
-  made-refused : i < n → (t .refusal ≡ 0 → ⊥) → Left (lastOf (access o) n s) (t .refusal) (t .bytes)
-  made-refused h z = left (stays (access (toZ w64 (ofZ w64 o))) s n i t m z n (omega arith))
+  pub made-refused : i < n → (r ≡ 0 → ⊥) → Left (lastOf access n s) r b
+  made-refused l z = left (stays held s n i (round r h f b) m z n (omega arith))
 
-  made-end : n ≤ i → Left (lastOf (access o) n s) (t .refusal) (t .bytes)
-  made-end h = left (all-made (access (toZ w64 (ofZ w64 o))) s n i t m n (omega (arith, m .reached)))
+  pub made-end : n ≤ i → Left (lastOf access n s) r b
+  made-end l = left (all-made held s n i (round r h f b) m n (omega (arith, m .reached)))
 
--- ---- reads and writes, by the parts of what a round leaves
+-- ---- a read and a write, by the parts of what a round leaves
 
-module _ (c : ℕ) (o : ℤ) (s : Round) (n i r : ℕ) (h : Handle) (f : FileRecord) (b : List ℕ) where
-  pub read-more : (file b' : List ℕ) (a : ReadAnswer) → Made (readAfter file c o) s n i (round r h f b) → i < n → r ≡ 0 → length b' ≡ length b → ReadAt h file f o c b b' a → Made (readAfter file c o) s n (i + 1) (round (a .refusal) (a .handle) (a .file) b')
+module _ (c : ℕ) (o : ℤ) (r : ℕ) (h : Handle) (f : FileRecord) (b b' : List ℕ) where
+  pub read-is : (file : List ℕ) (a : ReadAnswer) → ReadAt h file f o c b b' a → round (a .refusal) (a .handle) (a .file) b' ≡ readAfter file c o (round r h f b)
   unfolding readAfter
-  read-more file b' a m l z e w = made-more (readAfter file c o) s n i (round r h f b) m (round (a .refusal) (a .handle) (a .file) b') l z e (λ x. let y = w .answer x in round (y .refusal) (y .handle) (y .file) (w .buffer x))
+  read-is file a w = λ x. let y = w .answer x in round (y .refusal) (y .handle) (y .file) (w .buffer x)
 
-  pub write-more : (buffer b' : List ℕ) (a : WriteAnswer) → Made (writeAfter buffer c o) s n i (round r h f b) → i < n → r ≡ 0 → length b' ≡ length b → WriteAt h b b' f o c buffer a → Made (writeAfter buffer c o) s n (i + 1) (round (a .refusal) (a .handle) (a .file) b')
+  pub write-is : (buffer : List ℕ) (a : WriteAnswer) → WriteAt h b b' f o c buffer a → round (a .refusal) (a .handle) (a .file) b' ≡ writeAfter buffer c o (round r h f b)
   unfolding writeAfter
-  write-more buffer b' a m l z e w = made-more (writeAfter buffer c o) s n i (round r h f b) m (round (a .refusal) (a .handle) (a .file) b') l z e (λ x. let y = w .answer x in round (y .refusal) (y .handle) (y .file) (w .bytes x))
+  write-is buffer a w = λ x. let y = w .answer x in round (y .refusal) (y .handle) (y .file) (w .bytes x)
 
-module _ (file : List ℕ) (c : ℕ) (o : ℤ) (s : Round) (n i r : ℕ) (h : Handle) (f : FileRecord) (b : List ℕ) (fits : SFits w64 o) (m : Made (readAfter file c (toZ w64 (ofZ w64 o))) s n i (round r h f b)) where
-  pub read-refused : i < n → (r ≡ 0 → ⊥) → Left (lastOf (readAfter file c o) n s) r b
-  read-refused = made-refused (readAfter file c) o s n i (round r h f b) fits m
+-- the code holds the offset's bits
+module _ (l : List ℕ) (c : ℕ) (o : ℤ) (fits : SFits w64 o) where
+  pub read-held : readAfter l c (toZ w64 (ofZ w64 o)) ≡ readAfter l c o
+  read-held = ap (readAfter l c) (toZ-ofZ fits)
 
-  pub read-end : n ≤ i → Left (lastOf (readAfter file c o) n s) r b
-  read-end = made-end (readAfter file c) o s n i (round r h f b) fits m
+  pub write-held : writeAfter l c (toZ w64 (ofZ w64 o)) ≡ writeAfter l c o
+  write-held = ap (writeAfter l c) (toZ-ofZ fits)
 
-module _ (buffer : List ℕ) (c : ℕ) (o : ℤ) (s : Round) (n i r : ℕ) (h : Handle) (f : FileRecord) (b : List ℕ) (fits : SFits w64 o) (m : Made (writeAfter buffer c (toZ w64 (ofZ w64 o))) s n i (round r h f b)) where
-  pub write-refused : i < n → (r ≡ 0 → ⊥) → Left (lastOf (writeAfter buffer c o) n s) r b
-  write-refused = made-refused (writeAfter buffer c) o s n i (round r h f b) fits m
-
-  pub write-end : n ≤ i → Left (lastOf (writeAfter buffer c o) n s) r b
-  write-end = made-end (writeAfter buffer c) o s n i (round r h f b) fits m
-
-pub ruleset making = (needs, made-none, read-refused, read-end, write-refused, write-end)
+pub ruleset making = (needs, made-none, made-more, read-is, write-is, made-refused, made-end, read-held, write-held)

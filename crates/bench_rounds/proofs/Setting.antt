@@ -1,15 +1,5 @@
 -- The view set: the lists of a body as the code decodes them, and the calls with them.
-use Prim.Native.Nat.{ℕ, _+_, _-_, _*_, _^_, _≤_, _<_, min}
-use mathlib.Core.List.{List}
-use mathlib.Core.Path.{_≡_, ap, _∙_}
-use native.Mathlib.Omega.{arith}
-use lib.IntN.{ℤ, pos}
-use lib.ListN.{length, take, drop, replicate, length-replicate}
-use lib.Signed.{mag}
-use mir.Syntax.{w64}
-use mir.Val.{toZ, ofZ, hbits}
-use Rattle.laws.specs.Lists.{tabulate, front}
-use Rattle.laws.proofs.Runs.{tail-lent, front-part}
+use Rattle.laws.proofs.Prelude.{ℕ, _+_, _-_, _*_, _^_, _≤_, _<_, min, _≡_, ap, _∙_, List, arith, length, take, drop, replicate, length-replicate, ℤ, pos, mag, w64, toZ, ofZ, hbits, tabulate, front, tail-lent, front-part}
 use Rattle.tagged_fields.specs.Fields.{numberAt, signedAt, numberFrom, signedFrom}
 use Rattle.tagged_fields.proofs.Bytes.{signed-read}
 use Rattle.rule_lists.specs.Lists.{typeOfLists, viewOfTypes}

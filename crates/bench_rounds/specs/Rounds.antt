@@ -7,7 +7,7 @@ use lib.ListN.{length}
 use Rattle.laws.specs.Checks.{granted}
 use Rattle.view.specs.Types.{PaperView}
 use Rattle.file.specs.declared.Handle.{Handle}
-use Rattle.file.specs.declared.FileRecord.{FileRecord}
+use Rattle.handle.specs.declared.FileRecord.{FileRecord}
 use Rattle.file.specs.declared.SetViewAnswer.{SetViewAnswer}
 use Rattle.file.specs.Answers.{openAnswer, setViewAnswer, readAtAnswer, readBuffer, writeAtAnswer, writtenFile}
 use Rattle.bench_rounds.specs.declared.Last.{Last}

@@ -1,10 +1,13 @@
 // Reading and writing at an offset: the checks of the call in their order, and then the mover.
-// A handle comes as its mode, its pointer, its view's numbers and the view's lists, which are lent: the etype's widths (ws) and displacements (ds) and the filetype's origins (ps). A file comes as its bytes and its size.
+// A handle comes as its numbers and its view's lists, which are lent: the etype's widths (ws) and displacements (ds) and the filetype's origins (ps). A file comes as its bytes and its record.
 ghost use mathlib.Core.Path.{_≡_};
-ghost use Rattle.view.specs.Numbers.{viewWith};
+ghost use Rattle.handle.specs.Parts.{handleWith};
 ghost use Rattle.call_access.specs.Parts.{readAs, checkedAs, writeAs, ReadMade, WriteChecked, WriteMade};
-use view::Numbers;
-use view::Offset;
+use handle::Access;
+use handle::FileNumbers;
+use handle::FileRecord;
+use handle::HandleNumbers;
+use view::BytePos;
 use view::PerEntry;
 use view::PerInstance;
 use view::View;
@@ -15,11 +18,11 @@ pub struct ReadOutcome {
     pub count: u64,
 }
 
-// What a write answers: the refusal number, 0 if granted, how many etypes it moved, and the file's size after it.
+// What a write answers: the refusal number, 0 if granted, how many etypes it moved, and the file's record after it.
 pub struct WriteOutcome {
     pub refusal: u64,
     pub count: u64,
-    pub size: u64,
+    pub file: FileRecord,
 }
 
 fn read_answer(refusal: u64, count: u64) -> ReadOutcome
@@ -31,60 +34,50 @@ fn read_answer(refusal: u64, count: u64) -> ReadOutcome
     }
 }
 
-fn write_answer(refusal: u64, count: u64, size: u64) -> WriteOutcome
-    ensures { λ r. ⌜ r ≡ writeAs refusal count size ⌝ }
+fn write_answer(refusal: u64, count: u64, rec: FileRecord) -> WriteOutcome
+    ensures { λ r. ⌜ r ≡ writeAs refusal count rec ⌝ }
 {
     WriteOutcome {
         refusal: refusal,
         count: count,
-        size: size,
+        file: rec,
     }
 }
 
-// Reads `count` etypes at `o` into the buffer.
+// Reads the etypes of an access into the buffer.
 pub fn read<'a>(
-    mode: u64,
-    pointer: u64,
-    v: Numbers,
+    h: HandleNumbers,
     ws: &'a PerEntry,
     ds: &'a PerEntry,
     ps: &'a PerInstance,
     file: &[u8],
-    size: u64,
-    o: Offset,
-    count: u64,
+    rec: FileRecord,
+    access: Access,
     buf: &mut [u8],
 ) -> ReadOutcome
-    ensures { λ r. ⌜ ReadMade mode pointer (viewWith v (now (ws .entry)) (now (ds .entry)) (now (ps .entry))) (now (file .entry)) size (o .0) count (now (buf .entry)) (now (buf .exit)) r ⌝ }
+    ensures { λ r. ⌜ ReadMade (handleWith h (now (ws .entry)) (now (ds .entry)) (now (ps .entry))) (now (file .entry)) rec (access .offset .0) (access .count) (now (buf .entry)) (now (buf .exit)) r ⌝ }
 {
-    let refusal = call_checks::access_refusal(
-        rule_limits::reads(mode),
-        mode,
-        pointer,
-        v,
-        ws,
-        ds,
-        ps,
-        file.len() as u64,
-        size,
-        o,
-        count,
-        buf.len() as u64,
-    );
+    let allowed = View::allows_reading(h.mode);
+    let room = buf.len() as u64;
+    let f = FileNumbers {
+        length: file.len() as u64,
+        record: rec,
+    };
+    let refusal = call_checks::access_refusal(allowed, h, ws, ds, ps, f, access, room);
     if refusal != 0 {
         return read_answer(refusal, 0);
     }
-    let moved = move_read::gather(v, ws, ds, ps, file, size, o, count, buf);
+    let moved = move_read::gather(h.view, ws, ds, ps, file, rec, access, buf);
     read_answer(0, moved)
 }
 
 // The checks of a write: the refusal number, and where a granted one ends.
 struct WriteChecks {
     refusal: u64,
-    end: u64,
+    end: BytePos,
 }
 
-fn checked_as(refusal: u64, end: u64) -> WriteChecks
+fn checked_as(refusal: u64, end: BytePos) -> WriteChecks
     ensures { λ r. ⌜ r ≡ checkedAs refusal end ⌝ }
 {
     WriteChecks {
@@ -93,69 +86,52 @@ fn checked_as(refusal: u64, end: u64) -> WriteChecks
     }
 }
 
-// Checks 1, 11, 12, 13 and 14 of a write, and where it ends.
+// Checks 1, 11, 12, 13 and 14 of a write from a buffer of `room` bytes, and where it ends.
 fn checked<'a>(
-    mode: u64,
-    pointer: u64,
-    v: Numbers,
+    h: HandleNumbers,
     ws: &'a PerEntry,
     ds: &'a PerEntry,
     ps: &'a PerInstance,
-    len: u64,
-    size: u64,
-    o: Offset,
-    count: u64,
+    f: FileNumbers,
+    access: Access,
     room: u64,
 ) -> WriteChecks
-    ensures { λ r. ⌜ WriteChecked mode pointer (viewWith v (now (ws .entry)) (now (ds .entry)) (now (ps .entry))) len size (o .0) count room r ⌝ }
+    ensures { λ r. ⌜ WriteChecked (handleWith h (now (ws .entry)) (now (ds .entry)) (now (ps .entry))) (f .length) (f .record) (access .offset .0) (access .count) room r ⌝ }
 {
-    let refusal = call_checks::access_refusal(
-        rule_limits::writes(mode),
-        mode,
-        pointer,
-        v,
-        ws,
-        ds,
-        ps,
-        len,
-        size,
-        o,
-        count,
-        room,
-    );
+    let allowed = View::allows_writing(h.mode);
+    let refusal = call_checks::access_refusal(allowed, h, ws, ds, ps, f, access, room);
     if refusal != 0 {
-        return checked_as(refusal, 0);
+        return checked_as(refusal, BytePos(0));
     }
-    let end = move_end::write_end(v, ws, ds, ps, o, count);
-    if len < end {
-        return checked_as(View::REFUSED_LENGTH, 0);
+    let end = move_end::write_end(h.view, ws, ds, ps, access);
+    if f.length < end.0 {
+        return checked_as(View::REFUSED_LENGTH, BytePos(0));
     }
     checked_as(0, end)
 }
 
-// Writes `count` etypes of the buffer at `o`.
+// Writes the etypes of an access from the buffer: the gap is filled first, whole, then the data are stored.
 pub fn write<'a>(
-    mode: u64,
-    pointer: u64,
-    v: Numbers,
+    h: HandleNumbers,
     ws: &'a PerEntry,
     ds: &'a PerEntry,
     ps: &'a PerInstance,
     file: &mut [u8],
-    size: u64,
-    o: Offset,
-    count: u64,
+    rec: FileRecord,
+    access: Access,
     buf: &[u8],
 ) -> WriteOutcome
-    ensures { λ r. ⌜ WriteMade mode pointer (viewWith v (now (ws .entry)) (now (ds .entry)) (now (ps .entry))) (now (file .entry)) (now (file .exit)) size (o .0) count (now (buf .entry)) r ⌝ }
+    ensures { λ r. ⌜ WriteMade (handleWith h (now (ws .entry)) (now (ds .entry)) (now (ps .entry))) (now (file .entry)) (now (file .exit)) rec (access .offset .0) (access .count) (now (buf .entry)) r ⌝ }
 {
-    let len = file.len() as u64;
-    let room = buf.len() as u64;
-    let call = checked(mode, pointer, v, ws, ds, ps, len, size, o, count, room);
+    let f = FileNumbers {
+        length: file.len() as u64,
+        record: rec,
+    };
+    let call = checked(h, ws, ds, ps, f, access, buf.len() as u64);
     if call.refusal != 0 {
-        return write_answer(call.refusal, 0, size);
+        return write_answer(call.refusal, 0, rec);
     }
-    let end = call.end;
-    let grown = move_write::write(v, ws, ds, ps, file, size, o, count, end, buf);
-    write_answer(0, count, grown)
+    let grown = move_write::grow(file, rec, call.end);
+    move_write::scatter(h.view, ws, ds, ps, file, access, buf);
+    write_answer(0, access.count, grown)
 }

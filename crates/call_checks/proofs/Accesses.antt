@@ -1,99 +1,81 @@
 -- The checks that reads and writes share, in their order, and what a granted access hands to a mover.
-use Prim.Native.Nat.{ℕ, _+_, _*_, _≤_}
-use mathlib.Core.Bool.{Bool, true, false, not}
-use mathlib.Core.List.{List}
-use mathlib.Core.Path.{_≡_, refl, sym, ap, _∙_}
-use native.Mathlib.Omega.{arith}
-use borrow.Author.Tests.{leb-true}
-use lib.Dec.{leb}
-use lib.IntN.{ℤ}
-use Rattle.laws.specs.Checks.{check}
-use Rattle.laws.proofs.Booleans.{check-yes, check-no, check-inv, unflag-true, unflag-false}
+use Rattle.laws.proofs.Prelude.{ℕ, _+_, _*_, _≤_, _<_, _≡_, _∙_, Bool, true, false, not, List, arith, ℤ, leb, lit<, w64, Fits, leb-true, le-leb, lt-leb, check-inv, unflag-true, Passes, ends-here, check-passes}
 use Rattle.view.specs.declared.View.{View}
-use Rattle.view.specs.declared.Numbers.{Numbers}
 use Rattle.view.specs.Types.{paper, whole}
 use Rattle.view.specs.Rules.{Valid}
 use Rattle.view.specs.Places.{dataSize}
 use Rattle.view.specs.Numbers.{viewWith}
-use Rattle.call_range.specs.Ranges.{accessAllowed}
-use Rattle.call_range.specs.Parts.{accessChecked}
-use Rattle.call_range.proofs.Ranging.{access-sum, access-offset}
-use Rattle.move_etype.specs.Parts.{WidthsValid, sizeOf}
-use Rattle.move_etype.proofs.Copying.{widths-valid}
+use Rattle.view.specs.Etypes.{WidthsValid, sizeOf}
+use Rattle.view.proofs.Etypes.{widths-valid}
+use Rattle.handle.specs.declared.HandleNumbers.{HandleNumbers}
+use Rattle.handle.specs.declared.FileRecord.{FileRecord}
+use Rattle.handle.specs.Ranges.{accessAllowed}
+use Rattle.handle.specs.Handles.{PaperHandle, fileValid, paperHandle}
+use Rattle.handle.specs.Parts.{handleWith}
+use Rattle.handle.proofs.Ranging.{access-sum, access-offset, bytes-fit}
 use Rattle.move_read.specs.Parts.{Movable}
 use Rattle.move_read.proofs.Etypes.{entries-valid, data-is, data-small}
-use Rattle.call_checks.specs.Parts.{filePartsValid, accessPartsRefusal}
+use Rattle.call_checks.specs.Refusals.{accessRefusal}
 use Rattle.call_checks.proofs.Handles.{file-view, file-short, file-limit}
 
--- ---- the checks
+-- ---- check 13, by the widths in the record
 
-module _ (u : Bool) (mode pointer : ℕ) (v : Numbers) (ws ds ps : List ℕ) (len size : ℕ) (t : Bool) (k : t ≡ filePartsValid mode pointer (viewWith v ws ds ps) len size) where
-  pub access-handle : not t ≡ true → (o : ℤ) (c room : ℕ) → 1 ≡ accessPartsRefusal u mode pointer (viewWith v ws ds ps) len size o c room
-  unfolding accessPartsRefusal
-  access-handle n o c room = check-no _ 1 _ 1 (unflag-false t _ k n) refl
+module _ (h : HandleNumbers) (ws ds ps : List ℕ) (len : ℕ) (r : FileRecord) (t : Bool) (k : t ≡ fileValid (handleWith h ws ds ps) len r) (n : not t ≡ false) where
+  valid : Valid (paper (viewWith (h .view) ws ds ps))
+  valid = file-view (handleWith h ws ds ps) len r (unflag-true t _ k n)
 
-  module _ (n : not t ≡ false) where
-    valid : Valid (paper (viewWith v ws ds ps))
-    valid = file-view mode pointer (viewWith v ws ds ps) len size (unflag-true t _ k n)
+  pub access-widths : WidthsValid (h .view .etype .entries) ws
+  access-widths = widths-valid _ _ _ (entries-valid (viewWith (h .view) ws ds ps) valid)
 
-    pub access-widths : WidthsValid (v .etype .entries) ws
-    access-widths = widths-valid _ _ _ (entries-valid (viewWith v ws ds ps) valid)
+  module _ (s : ℕ) (e : s ≡ sizeOf (h .view .etype .entries) ws) where
+    size-is : s ≡ dataSize (paper (viewWith (h .view) ws ds ps))
+    size-is = e ∙ data-is (viewWith (h .view) ws ds ps) valid
 
-    -- S
-    module _ (s : ℕ) (e : s ≡ sizeOf (v .etype .entries) ws) where
-      size-is : s ≡ dataSize (paper (viewWith v ws ds ps))
-      size-is = e ∙ data-is (viewWith v ws ds ps) valid
+    pub access-fits : (o : ℤ) (c : ℕ) (u : Bool) → u ≡ accessAllowed o c → not u ≡ false → Fits w64 (c * s)
+    access-fits o c u a m = bytes-fit o c s u a m (omega (arith, size-is, data-small (viewWith (h .view) ws ds ps) valid))
 
-      pub access-small : s ≤ 64
-      access-small = omega (arith, size-is, data-small (viewWith v ws ds ps) valid)
+    module _ (c room : ℕ) where
+      pub room-short : room < c * s → leb (c * dataSize (paper (viewWith (h .view) ws ds ps))) room ≡ false
+      room-short l = lt-leb _ room (rw size-is at l)
 
-      pub access-judged : (o : ℤ) (c room m : ℕ) → m ≡ accessChecked u o c s room → m ≡ accessPartsRefusal u mode pointer (viewWith v ws ds ps) len size o c room
-      unfolding accessPartsRefusal
-      access-judged o c room m q = check-yes _ 1 _ m (unflag-true t _ k n) (q ∙ ap (λ (z : ℕ). accessChecked u o c z room) size-is)
+      pub room-enough : c * s ≤ room → leb (c * dataSize (paper (viewWith (h .view) ws ds ps))) room ≡ true
+      room-enough l = le-leb _ room (rw size-is at l)
 
--- ---- what they leave
+-- ---- the chain
 
--- what the movers ask for
-pub access-movable : (mode pointer : ℕ) (v : View) (len size : ℕ) (o : ℤ) (c room : ℕ) → filePartsValid mode pointer v len size ≡ true → accessAllowed o c ≡ true → c * dataSize (paper v) ≤ room → Movable v len size o c room
-access-movable mode pointer v len size o c room k a b = record {
-  ranged = record { valid = file-view mode pointer v len size k; offset = access-offset o c a; last = access-sum o c a };
-  short = file-short mode pointer v len size k;
-  limit = file-limit mode pointer v len size k;
-  room = b;
-}
+module _ (u : Bool) (h : PaperHandle) (len : ℕ) (r : FileRecord) (o : ℤ) (c room : ℕ) where
+  -- the later checks are asked exactly if none of these refuses
+  pub access-passes : Passes (accessRefusal u h len r o c room)
+  unfolding accessRefusal
+  access-passes = check-passes _ 1 _ (lit< tt) (check-passes _ 11 _ (lit< tt) (check-passes _ 12 _ (lit< tt) (check-passes _ 13 _ (lit< tt) ends-here)))
 
-module _ (u : Bool) (mode pointer : ℕ) (v : View) (len size : ℕ) (o : ℤ) (c room : ℕ) where
-  -- the checks after them are asked exactly if none of them refuses
-  pub held-no : (later : ℕ) → (accessPartsRefusal u mode pointer v len size o c room ≡ 0 → ⊥) → accessPartsRefusal u mode pointer v len size o c room ≡ check (filePartsValid mode pointer v len size) 1 (check u 11 (check (accessAllowed o c) 12 (check (leb (c * dataSize (paper v)) room) 13 later)))
-  unfolding accessPartsRefusal accessChecked check
-  held-no later z = cases (filePartsValid mode pointer v len size) u (accessAllowed o c) (leb (c * dataSize (paper v)) room) z
-    where
-      cases : (a b d e : Bool) → (check a 1 (check b 11 (check d 12 (check e 13 0))) ≡ 0 → ⊥) → check a 1 (check b 11 (check d 12 (check e 13 0))) ≡ check a 1 (check b 11 (check d 12 (check e 13 later)))
-      cases false b d e z = refl
-      cases true false d e z = refl
-      cases true true false e z = refl
-      cases true true true false z = refl
-      cases true true true true z = absurd (z refl)
+  -- what an access that is granted has passed
+  module _ (later : ℕ) (z : accessRefusal u h len r o c room later ≡ 0) where
+    pub access-file : fileValid h len r ≡ true
+    unfolding accessRefusal
+    access-file = check-inv _ 1 _ (lit< tt) z .0
 
-  module _ (z : accessPartsRefusal u mode pointer v len size o c room ≡ 0) where
-    first-check : (filePartsValid mode pointer v len size ≡ true) × (check u 11 (check (accessAllowed o c) 12 (check (leb (c * dataSize (paper v)) room) 13 0)) ≡ 0)
-    unfolding accessPartsRefusal accessChecked
-    first-check = check-inv _ 1 _ (omega arith) z
+    pub access-ranged : accessAllowed o c ≡ true
+    unfolding accessRefusal
+    access-ranged = check-inv _ 12 _ (lit< tt) (check-inv _ 11 _ (lit< tt) (check-inv _ 1 _ (lit< tt) z .1) .1) .0
 
-    mode-check : (u ≡ true) × (check (accessAllowed o c) 12 (check (leb (c * dataSize (paper v)) room) 13 0) ≡ 0)
-    mode-check = check-inv _ 11 _ (omega arith) (first-check .1)
+    pub access-room : c * dataSize (h .view) ≤ room
+    unfolding accessRefusal
+    access-room = leb-true _ _ (check-inv _ 13 _ (lit< tt) (check-inv _ 12 _ (lit< tt) (check-inv _ 11 _ (lit< tt) (check-inv _ 1 _ (lit< tt) z .1) .1) .1) .0)
 
-    range-check : (accessAllowed o c ≡ true) × (check (leb (c * dataSize (paper v)) room) 13 0 ≡ 0)
-    range-check = check-inv _ 12 _ (omega arith) (mode-check .1)
+    pub access-sums : whole o + c ≤ 4294967296
+    access-sums = access-sum o c access-ranged
 
-    room-check : leb (c * dataSize (paper v)) room ≡ true
-    room-check = check-inv _ 13 _ (omega arith) (range-check .1) .0
+-- ---- what they leave for the movers
 
-    pub held-yes : (later : ℕ) → check (filePartsValid mode pointer v len size) 1 (check u 11 (check (accessAllowed o c) 12 (check (leb (c * dataSize (paper v)) room) 13 later))) ≡ later
-    held-yes later = sym (check-yes _ 1 _ later (first-check .0) (check-yes _ 11 _ later (mode-check .0) (check-yes _ 12 _ later (range-check .0) (check-yes _ 13 _ later room-check refl))))
-
-    pub held-sum : whole o + c ≤ 4294967296
-    held-sum = access-sum o c (range-check .0)
-
-    pub held-movable : Movable v len size o c room
-    held-movable = access-movable mode pointer v len size o c room (first-check .0) (range-check .0) (leb-true _ _ room-check)
+pub access-movable : (u : Bool) (mode pointer : ℕ) (v : View) (len : ℕ) (r : FileRecord) (o : ℤ) (c room later : ℕ) → accessRefusal u (paperHandle mode pointer v) len r o c room later ≡ 0 → Movable v len (r .size) o c room
+access-movable u mode pointer v len r o c room later z =
+    let h = paperHandle mode pointer v in
+    let k = access-file u h len r o c room later z in
+    let a = access-ranged u h len r o c room later z in
+    record {
+      ranged = record { valid = file-view h len r k; offset = access-offset o c a; last = access-sum o c a };
+      short = file-short h len r k;
+      limit = file-limit h len r k;
+      room = access-room u h len r o c room later z;
+    }

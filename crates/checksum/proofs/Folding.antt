@@ -1,10 +1,5 @@
 -- A checksum is taken number by number, and no step wraps.
-use Prim.Native.Nat.{ℕ, _+_, _*_, _/_, _%_, _≤_, _<_}
-use mathlib.Core.Path.{_≡_, refl, sym, ap, _∙_}
-use native.Mathlib.Nat.{mul-add-mod-self-right}
-use native.Mathlib.Numerals.{add-one}
-use native.Mathlib.Omega.{arith}
-use borrow.Author.Needs.{needs}
+use Rattle.laws.proofs.Prelude.{ℕ, _+_, _*_, _/_, _%_, _≤_, _<_, _≡_, refl, sym, ap, _∙_, arith, mul-add-mod-self-right, add-one, needs}
 use Rattle.checksum.specs.Checksums.{modulus, fed, checksumOf}
 
 -- the remainder of s serves as well as s

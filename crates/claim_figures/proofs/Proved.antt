@@ -1,23 +1,22 @@
 -- Each row of the table holds: both sides compute to the same value. Assumes nothing.
-use mathlib.Core.Path.{refl}
-use Rattle.laws.specs.Checks.{also, either, within, check, granted}
-use Rattle.laws.specs.Search.{first, all, greatest, total}
-use Rattle.laws.specs.Lists.{tabulate, store}
+use Rattle.laws.proofs.Prelude.{refl, also, either, within, check, granted, first, all, greatest, total, tabulate, store}
 use Rattle.view.specs.Limits.{widthAllowed, etypeEntriesAllowed, filetypeEntriesAllowed, entryDisplacementAllowed, extentAllowed, displacementAllowed, offsetAllowed, pointerAllowed, fileAllowed}
 use Rattle.view.specs.Types.{whole, entries, widthAt, displacementAt, extentOf, paper, defaultView}
-use Rattle.view.specs.Rules.{nativeName, isNative, paired, entryAllowed, entriesAllowed, ordered, typeOrdered, instances, origin, entryBuilt, built, hole, holesFit, viewHolesFit, nextBegins, entryApart, apart, modeAllowed, allowsReading, allowsWriting, viewRefusal, setRefusal, accepted, recordOf}
+use Rattle.view.specs.Rules.{nativeName, isNative, paired, entryAllowed, entriesAllowed, ordered, typeOrdered, instances, origin, entryBuilt, built, hole, holesFit, viewHolesFit, nextBegins, entryApart, apart, viewRefusal, setRefusal, accepted, recordOf}
+use Rattle.view.specs.Modes.{modeAllowed, allowsReading, allowsWriting}
 use Rattle.view.specs.Places.{place, packedBefore, dataSize, entryOf, dataAt, byteOf}
 use Rattle.view.specs.Owners.{entryStart, offsetIn, indexIn, hits, hitEntry, ownerOf}
 use Rattle.view.specs.End.{endFrom, endOfFile}
 use Rattle.move_read.specs.Moves.{fileByte, inFile, moved, readInto, writeEnd, newSize, written}
-use Rattle.call_range.specs.Ranges.{targetAllowed, accessAllowed}
-use Rattle.file.specs.Handles.{viewOf, freshHandle, modeGot, handleValid, fileValid, withPointer, withView, withSize}
-use Rattle.file.specs.Refusals.{openRefusal, setViewRefusal, byteOffsetRefusal, reverseRefusal, endRefusal, seekTarget, seekRefusal, accessRefusal, readRefusal, writeRefusal}
+use Rattle.handle.specs.Ranges.{targetAllowed, accessAllowed}
+use Rattle.handle.specs.Handles.{handleValid, fileValid, withSize}
+use Rattle.file.specs.Handles.{freshHandle, modeGot, withPointer, withView}
+use Rattle.call_checks.specs.Refusals.{openRefusal, setViewRefusal, byteOffsetRefusal, reverseRefusal, endRefusal, seekTarget, seekRefusal, accessRefusal, readRefusal, writeRefusal}
 use Rattle.file.specs.Answers.{openAnswer, setViewAnswer, byteOffsetAnswer, reverseAnswer, endAnswer, seekAnswer, readCount, readAtAnswer, writeAtAnswer, writtenFile}
 use Rattle.claim_figures.specs.Table.{Figures}
 
 pub figures : Figures
-unfolding also either within check granted first all greatest total tabulate store widthAllowed etypeEntriesAllowed filetypeEntriesAllowed entryDisplacementAllowed extentAllowed displacementAllowed offsetAllowed pointerAllowed fileAllowed whole entries widthAt displacementAt extentOf paper defaultView nativeName isNative paired entryAllowed entriesAllowed ordered typeOrdered instances origin entryBuilt built hole holesFit viewHolesFit nextBegins entryApart apart modeAllowed allowsReading allowsWriting viewRefusal setRefusal accepted recordOf place packedBefore dataSize entryOf dataAt byteOf entryStart offsetIn indexIn hits hitEntry ownerOf endFrom endOfFile fileByte inFile moved readInto writeEnd newSize written viewOf freshHandle modeGot handleValid fileValid withPointer withView withSize openRefusal setViewRefusal byteOffsetRefusal reverseRefusal endRefusal seekTarget targetAllowed seekRefusal accessAllowed accessRefusal readRefusal writeRefusal openAnswer setViewAnswer byteOffsetAnswer reverseAnswer endAnswer seekAnswer readCount readAtAnswer writeAtAnswer writtenFile
+unfolding also either within check granted first all greatest total tabulate store widthAllowed etypeEntriesAllowed filetypeEntriesAllowed entryDisplacementAllowed extentAllowed displacementAllowed offsetAllowed pointerAllowed fileAllowed whole entries widthAt displacementAt extentOf paper defaultView nativeName isNative paired entryAllowed entriesAllowed ordered typeOrdered instances origin entryBuilt built hole holesFit viewHolesFit nextBegins entryApart apart modeAllowed allowsReading allowsWriting viewRefusal setRefusal accepted recordOf place packedBefore dataSize entryOf dataAt byteOf entryStart offsetIn indexIn hits hitEntry ownerOf endFrom endOfFile fileByte inFile moved readInto writeEnd newSize written freshHandle modeGot handleValid fileValid withPointer withView withSize openRefusal setViewRefusal byteOffsetRefusal reverseRefusal endRefusal seekTarget targetAllowed seekRefusal accessAllowed accessRefusal readRefusal writeRefusal openAnswer setViewAnswer byteOffsetAnswer reverseAnswer endAnswer seekAnswer readCount readAtAnswer writeAtAnswer writtenFile
 figures = record {
   p1-set = refl;
   p1-place = refl;

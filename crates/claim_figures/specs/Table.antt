@@ -9,7 +9,7 @@ use Rattle.view.specs.Rules.{nativeName}
 use Rattle.view.specs.declared.Owner.{Owner}
 use Rattle.view.specs.declared.Owner.the-variants.{Pair, Nobody}
 use Rattle.file.specs.declared.Handle.{Handle}
-use Rattle.file.specs.declared.FileRecord.{FileRecord}
+use Rattle.handle.specs.declared.FileRecord.{FileRecord}
 use Rattle.file.specs.declared.SetViewAnswer.{SetViewAnswer}
 use Rattle.file.specs.Answers.{openAnswer, setViewAnswer, byteOffsetAnswer, reverseAnswer, endAnswer, seekAnswer, readAtAnswer, writeAtAnswer, writtenFile}
 

@@ -1,19 +1,5 @@
 -- A set and the giving back after it: the handle of a granted set keeps check 1, its record stands for the lent view, and so the lists get what was lent.
-use Prim.Native.Nat.{ℕ, _≤_}
-use mathlib.Core.Bool.{true}
-use mathlib.Core.List.{List}
-use mathlib.Core.Path.{_≡_, refl, sym, ap, _∙_}
-use native.Mathlib.Omega.{arith}
-use borrow.Author.Tests.{le-leb, eq-eqb}
-use lib.IntN.{ℤ, pos}
-use lib.ListN.{length, take}
-use mir.Syntax.{w64}
-use mir.Val.{SFits, toZ, ofZ}
-use mir.Facts.{toZ-ofZ}
-use Rattle.laws.specs.Checks.{granted}
-use Rattle.laws.specs.Lists.{front}
-use Rattle.laws.proofs.Booleans.{also-true, also-inv, check-zero, check-inv, granted-yes}
-use Rattle.laws.proofs.Runs.{take-front}
+use Rattle.laws.proofs.Prelude.{ℕ, _≤_, _≡_, refl, sym, ap, _∙_, true, List, arith, length, take, ℤ, pos, w64, SFits, toZ, ofZ, toZ-ofZ, le-leb, eq-eqb, granted, front, also-true, also-inv, check-zero, check-inv, granted-yes, take-front}
 use Rattle.view.specs.Limits.{pointerAllowed, extentAllowed}
 use Rattle.view.specs.Types.{PaperType, PaperView, paper, entries, widthAt, displacementAt, extentOf, whole}
 use Rattle.view.specs.Rules.{setRefusal, accepted, entriesAllowed, paired, recordOf}
@@ -24,21 +10,22 @@ use Rattle.file.specs.declared.Handle.{Handle}
 use Rattle.file.specs.declared.SetViewAnswer.{SetViewAnswer}
 use Rattle.file.specs.declared.TypeShape.{TypeShape}
 use Rattle.file.specs.declared.GetViewAnswer.{GetViewAnswer}
-use Rattle.file.specs.Handles.{viewOf, handleValid, withView}
-use Rattle.file.specs.Refusals.{setViewRefusal, getViewRefusal}
-use Rattle.file.specs.Answers.{setViewAnswer, getViewAs, getViewAnswer, shapeGot, widthsFilled, displacementsFilled, GotView}
-use Rattle.view_typemap.specs.Typemaps.{Ready}
-use Rattle.file.proofs.Getting.{give-ready}
+use Rattle.handle.specs.Handles.{handleValid}
+use Rattle.file.specs.Handles.{onPaper, viewOf, withView}
+use Rattle.call_checks.specs.Refusals.{setViewRefusal, getViewRefusal}
+use Rattle.file.specs.Answers.{setViewAnswer, getViewAs, getViewAnswer, shapeGot, GotView}
+use Rattle.view_typemap.specs.Typemaps.{Ready, widthsFilled, displacementsFilled}
+use Rattle.call_query.proofs.Getting.{give-ready}
 use Rattle.claim_view.specs.SetThenGet.{TypeSame, ViewSame, Roomy, GotAsSet}
 
 -- ---- a granted set
 
 module _ (h : Handle) (representation : List ℕ) (v : PaperView) (s : SetViewAnswer) (e : s ≡ setViewAnswer h representation v) (z : s .refusal ≡ 0) where
-  granted-set : setViewRefusal h representation v ≡ 0
+  granted-set : setViewRefusal (onPaper h) representation v ≡ 0
   unfolding setViewAnswer
   granted-set = sym (ap (λ x. x .refusal) e) ∙ z
 
-  set-valid : (handleValid h ≡ true) × (setRefusal (h .mode) representation v ≡ 0)
+  set-valid : (handleValid (onPaper h) ≡ true) × (setRefusal (h .mode) representation v ≡ 0)
   unfolding setViewRefusal
   set-valid = check-inv _ 1 _ (omega arith) granted-set
 
@@ -51,21 +38,21 @@ module _ (h : Handle) (representation : List ℕ) (v : PaperView) (s : SetViewAn
   handle-is = ap (λ x. x .handle) e ∙ granted-yes _ _ _ granted-set
 
   view-is : viewOf (s .handle) ≡ v
-  unfolding viewOf withView
+  unfolding withView
   view-is = ap (λ x. paper (x .view)) handle-is ∙ record-same (h .mode) v set-accepted
 
   -- the handle that the set gave back passes check 1
-  fresh-valid : handleValid (withView h (recordOf v)) ≡ true
-  unfolding handleValid pointerAllowed withView viewOf
+  fresh-valid : handleValid (onPaper (withView h (recordOf v))) ≡ true
+  unfolding handleValid pointerAllowed withView
   fresh-valid = also-true (also-inv _ _ (set-valid .0) .0) (also-true (le-leb 0 4294967296 (omega arith)) (ap (accepted (h .mode)) (record-same (h .mode) v set-accepted) ∙ set-accepted))
 
-  changed-valid : handleValid (s .handle) ≡ true
-  changed-valid = ap handleValid handle-is ∙ fresh-valid
+  changed-valid : handleValid (onPaper (s .handle)) ≡ true
+  changed-valid = ap (λ x. handleValid (onPaper x)) handle-is ∙ fresh-valid
 
-  give-passes : (a b c d : ℕ) → entries (v .etype) ≤ a → entries (v .etype) ≤ b → entries (v .filetype) ≤ c → entries (v .filetype) ≤ d → getViewRefusal (s .handle) a b c d ≡ 0
+  give-passes : (a b c d : ℕ) → entries (v .etype) ≤ a → entries (v .etype) ≤ b → entries (v .filetype) ≤ c → entries (v .filetype) ≤ d → getViewRefusal (onPaper (s .handle)) a b c d ≡ 0
   unfolding getViewRefusal
   give-passes a b c d la lb lc ld =
-      rw view-is (check-zero 1 changed-valid (check-zero 13 (also-true (le-leb _ a la) (also-true (le-leb _ b lb) (also-true (le-leb _ c lc) (le-leb _ d ld)))) refl))
+      check-zero 1 changed-valid (check-zero 13 (rw view-is (also-true (le-leb _ a la) (also-true (le-leb _ b lb) (also-true (le-leb _ c lc) (le-leb _ d ld))))) refl)
 
 -- ---- what is given back of it
 
@@ -92,7 +79,7 @@ module _ (t : PaperType) (allowed : entriesAllowed t ≡ true) (even : paired t 
   }
 
 module _ (h : Handle) (representation : List ℕ) (v : PaperView) (s : SetViewAnswer) (e : s ≡ setViewAnswer h representation v) (ew ew' : List ℕ) (ed ed' : List ℤ) (fw fw' : List ℕ) (fd fd' : List ℤ) (g : GetViewAnswer) (b : GotView (s .handle) ew ew' ed ed' fw fw' fd fd' g) where
-  refusal-is : g .refusal ≡ getViewRefusal (s .handle) (length ew) (length ed) (length fw) (length fd)
+  refusal-is : g .refusal ≡ getViewRefusal (onPaper (s .handle)) (length ew) (length ed) (length fw) (length fd)
   unfolding getViewAnswer getViewAs
   refusal-is = ap (λ x. x .refusal) (b .answer)
 
@@ -111,8 +98,7 @@ module _ (h : Handle) (representation : List ℕ) (v : PaperView) (s : SetViewAn
 
     module _ (y : g .refusal ≡ 0) where
       ready : Ready v ew ed fw fd
-      unfolding viewOf
-      ready = rw is at (give-ready (s .handle) ew ed fw fd (g .refusal) refusal-is y)
+      ready = rw is at (give-ready (onPaper (s .handle)) ew ed fw fd (sym refusal-is ∙ y))
 
       start-is : g .displacement ≡ whole (v .displacement)
       unfolding getViewAnswer getViewAs

@@ -1,9 +1,5 @@
 -- From the contracts of the calls to the claims: where a write begins, and the read after it begins there too.
-use Prim.Native.Nat.{ℕ}
-use mathlib.Core.List.{List}
-use mathlib.Core.Path.{_≡_, refl, sym, ap, _∙_, subst}
-use borrow.Author.Needs.{needs}
-use lib.IntN.{ℤ}
+use Rattle.laws.proofs.Prelude.{ℕ, _≡_, refl, sym, ap, _∙_, subst, List, ℤ, needs}
 use Rattle.view.specs.declared.Offset.{Offset}
 use Rattle.file.specs.declared.Handle.{Handle}
 use Rattle.file.specs.declared.ReadAnswer.{ReadAnswer}

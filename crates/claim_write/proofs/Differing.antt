@@ -1,15 +1,10 @@
 -- Two writes with the same view, offset and count on equal files, both granted: a file byte differs afterwards exactly if it belongs to a pair whose data differ.
 -- Rests on `IsWritten` of both (Granted.antt), and on what same views have in common.
-use Prim.Native.Nat.{ℕ, _+_, _*_, _/_, _%_, _≤_, _<_}
-use mathlib.Core.List.{List}
-use mathlib.Core.Logic.{_≢_, ⊎-elim}
-use mathlib.Core.Path.{_≡_, sym, ap, _∙_, transport⁻¹}
-use native.Mathlib.Omega.{arith}
-use Rattle.laws.specs.Lists.{nth}
+use Rattle.laws.proofs.Prelude.{ℕ, _+_, _*_, _/_, _%_, _≤_, _<_, _≡_, sym, ap, _∙_, transport⁻¹, List, _≢_, ⊎-elim, arith, nth}
 use Rattle.view.specs.Types.{PaperView, whole}
 use Rattle.view.specs.Places.{dataSize}
 use Rattle.view.proofs.Same.{same-paper}
-use Rattle.call_range.proofs.Ranging.{access-sum}
+use Rattle.handle.proofs.Ranging.{access-sum}
 use Rattle.move_read.specs.Moves.{fileByte, newSize, IsWritten}
 use Rattle.move_read.proofs.Writing.{Found, mapped-or-not, same-unmapped}
 use Rattle.file.specs.declared.WriteAnswer.{WriteAnswer}
@@ -64,7 +59,6 @@ module _ (a b : Write) (before after buffer before' after' buffer' : List ℕ) (
     first = granted-write a before after buffer m ma za
 
     same-view : viewOf (a .handle) ≡ viewOf (b .handle)
-    unfolding viewOf
     same-view = same-paper (a .handle .view) (b .handle .view) (alike .view)
 
     same-size : m .file .size ≡ n .file .size

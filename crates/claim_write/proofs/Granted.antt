@@ -1,16 +1,6 @@
 -- What a granted write means, explicit or at the pointer: it passed every check, left the file that document 01 describes, and gave back a handle that passes check 1.
 -- Rests on the checks of the refusal chain, on `written-is`, and on `distinct`, the one law that uses the overlap rule.
-use Prim.Native.Nat.{ℕ, _+_, _≤_, _<_}
-use mathlib.Core.Bool.{true}
-use mathlib.Core.List.{List}
-use mathlib.Core.Logic.{⊎-elim}
-use mathlib.Core.Path.{_≡_, refl, sym, ap, _∙_}
-use native.Mathlib.Omega.{arith}
-use borrow.Author.Tests.{le-leb}
-use lib.IntN.{ℤ, pos}
-use lib.ListN.{length}
-use Rattle.laws.specs.Checks.{granted}
-use Rattle.laws.proofs.Booleans.{eq-or-ne, also-true, also-inv, granted-yes, granted-no}
+use Rattle.laws.proofs.Prelude.{ℕ, _+_, _≤_, _<_, _≡_, refl, sym, ap, _∙_, true, List, ⊎-elim, arith, length, ℤ, pos, le-leb, granted, eq-or-ne, also-true, also-inv, granted-yes, granted-no}
 use Rattle.view.specs.declared.Offset.{Offset}
 use Rattle.view.specs.Limits.{pointerAllowed}
 use Rattle.view.specs.Types.{PaperView, paper, whole}
@@ -19,15 +9,16 @@ use Rattle.view.specs.Places.{dataSize}
 use Rattle.view.proofs.Accepted.{facts, accepted-valid}
 use Rattle.view.proofs.Packing.{packed-part}
 use Rattle.view.proofs.Injective.{distinct}
-use Rattle.call_range.proofs.Ranging.{access-sum}
+use Rattle.handle.proofs.Ranging.{access-sum}
 use Rattle.move_read.specs.Moves.{newSize, IsWritten, written}
 use Rattle.move_read.proofs.Writing.{written-is}
 use Rattle.file.specs.declared.WriteAnswer.{WriteAnswer}
-use Rattle.file.specs.Handles.{viewOf, handleValid, withPointer, withSize}
-use Rattle.file.specs.Refusals.{writeRefusal}
+use Rattle.handle.specs.Handles.{handleValid, withSize}
+use Rattle.file.specs.Handles.{onPaper, viewOf, withPointer}
+use Rattle.call_checks.specs.Refusals.{writeRefusal}
 use Rattle.file.specs.Answers.{writeAtAnswer, writeAnswer, writtenFile, WriteAt, WriteNext}
-use Rattle.file.proofs.Writable.{Checked, checked}
-use Rattle.file.proofs.Checking.{handle-pointer, file-valid-handle, file-short}
+use Rattle.call_access.proofs.Writing.{Checked, checked}
+use Rattle.call_checks.proofs.Handles.{held-pointer, file-handle, file-short}
 use Rattle.claim_write.specs.declared.Begin.{Begin}
 use Rattle.claim_write.specs.declared.Begin.the-variants.{Pointer, Explicit}
 use Rattle.claim_write.specs.declared.Write.{Write}
@@ -45,7 +36,7 @@ data-some mode v h =
 
 -- what a write at o answers; a granted one may change the pointer, to one that is allowed
 record Answered (w : Write) (len room : ℕ) (o : ℤ) (a : WriteAnswer) : Type 0 where
-  refusal : a .refusal ≡ writeRefusal (w .handle) len (w .file) o (w .count) room
+  refusal : a .refusal ≡ writeRefusal (onPaper (w .handle)) len (w .file) o (w .count) room
   count : a .count ≡ granted (a .refusal) (w .count) 0
   file : a .file ≡ granted (a .refusal) (withSize (w .file) (newSize (viewOf (w .handle)) (w .file .size) (whole o) (w .count))) (w .file)
   pointer : ℕ
@@ -63,7 +54,7 @@ answered w Pointer len room = record {
   refusal = refl;
   count = refl;
   file = refl;
-  pointer = w .handle .pointer + granted (writeRefusal (w .handle) len (w .file) (pos (w .handle .pointer)) (w .count) room) (w .count) 0;
+  pointer = w .handle .pointer + granted (writeRefusal (onPaper (w .handle)) len (w .file) (pos (w .handle .pointer)) (w .count) room) (w .count) 0;
   handle = refl;
   allowed = λ z. omega (arith, access-sum _ _ (checked _ _ _ _ _ _ z .range), granted-yes _ (w .count) 0 z);
 }
@@ -73,7 +64,7 @@ answered w (Explicit o) len room = record {
   file = refl;
   pointer = w .handle .pointer;
   handle = granted-same _ (w .handle);
-  allowed = λ z. handle-pointer (w .handle) (file-valid-handle _ _ _ (checked _ _ _ _ _ _ z .valid));
+  allowed = λ z. held-pointer (onPaper (w .handle)) (file-handle _ _ _ (checked _ _ _ _ _ _ z .valid));
 }
 
 -- ---- a write that was made
@@ -97,7 +88,7 @@ module _ (w : Write) (before after buffer : List ℕ) (a : WriteAnswer) where
 
 -- what a granted one means
 pub record GrantedWrite (w : Write) (before after buffer : List ℕ) (a : WriteAnswer) : Type 0 where
-  pub checks : Checked (w .handle) (length before) (w .file) (offsetOf w) (w .count) (length buffer)
+  pub checks : Checked (onPaper (w .handle)) (length before) (w .file) (offsetOf w) (w .count) (length buffer)
   pub view : accepted (w .handle .mode) (viewOf (w .handle)) ≡ true
   pub some : 0 < dataSize (viewOf (w .handle))
   pub bytes : IsWritten (viewOf (w .handle)) (w .file .size) (whole (offsetOf w)) (w .count) buffer before after
@@ -106,7 +97,7 @@ pub record GrantedWrite (w : Write) (before after buffer : List ℕ) (a : WriteA
   -- the handle given back
   pub same-mode : a .handle .mode ≡ w .handle .mode
   pub same-view : viewOf (a .handle) ≡ viewOf (w .handle)
-  pub passes : handleValid (a .handle) ≡ true
+  pub passes : handleValid (onPaper (a .handle)) ≡ true
 
 module _ (w : Write) (before after buffer : List ℕ) (a : WriteAnswer) (m : Made w before after buffer a) where
   answer-is : Answered w (length before) (length buffer) (offsetOf w) a
@@ -118,14 +109,14 @@ module _ (w : Write) (before after buffer : List ℕ) (a : WriteAnswer) (m : Mad
   refused-handle z = answer-is .handle ∙ granted-no _ _ _ z
 
   module _ (z : a .refusal ≡ 0) where
-    number : writeRefusal (w .handle) (length before) (w .file) (offsetOf w) (w .count) (length buffer) ≡ 0
+    number : writeRefusal (onPaper (w .handle)) (length before) (w .file) (offsetOf w) (w .count) (length buffer) ≡ 0
     number = sym (answer-is .refusal) ∙ z
 
-    passed : Checked (w .handle) (length before) (w .file) (offsetOf w) (w .count) (length buffer)
-    passed = checked (w .handle) (length before) (w .file) (offsetOf w) (w .count) (length buffer) number
+    passed : Checked (onPaper (w .handle)) (length before) (w .file) (offsetOf w) (w .count) (length buffer)
+    passed = checked (onPaper (w .handle)) (length before) (w .file) (offsetOf w) (w .count) (length buffer) number
 
-    valid : handleValid (w .handle) ≡ true
-    valid = file-valid-handle _ _ _ (passed .valid)
+    valid : handleValid (onPaper (w .handle)) ≡ true
+    valid = file-handle _ _ _ (passed .valid)
 
     accepts : accepted (w .handle .mode) (viewOf (w .handle)) ≡ true
     accepts = handle-accepts (w .handle) valid
@@ -145,12 +136,12 @@ module _ (w : Write) (before after buffer : List ℕ) (a : WriteAnswer) (m : Mad
     handle-is = answer-is .handle ∙ granted-yes _ _ _ z
 
     -- the handle given back differs in the pointer at most, which is allowed
-    handle-passes : handleValid (withPointer (w .handle) (answer-is .pointer)) ≡ true
-    unfolding handleValid pointerAllowed withPointer viewOf
+    handle-passes : handleValid (onPaper (withPointer (w .handle) (answer-is .pointer))) ≡ true
+    unfolding handleValid pointerAllowed withPointer
     handle-passes = also-true (also-inv _ _ valid .0) (also-true (le-leb _ 4294967296 (answer-is .allowed z)) accepts)
 
     pub granted-write : GrantedWrite w before after buffer a
-    unfolding withPointer viewOf
+    unfolding withPointer
     granted-write = record {
       checks = passed;
       view = accepts;
@@ -160,7 +151,7 @@ module _ (w : Write) (before after buffer : List ℕ) (a : WriteAnswer) (m : Mad
       file = answer-is .file ∙ granted-yes _ _ _ z;
       same-mode = ap (λ x. x .mode) handle-is;
       same-view = ap (λ x. paper (x .view)) handle-is;
-      passes = ap handleValid handle-is ∙ handle-passes;
+      passes = ap (λ x. handleValid (onPaper x)) handle-is ∙ handle-passes;
     }
 
     pub new-size : a .file .size ≡ newSize (viewOf (w .handle)) (w .file .size) (whole (offsetOf w)) (w .count)

@@ -1,34 +1,31 @@
 -- A handle that passes check 1 and allows writing: each file byte belongs to at most one pair of its view, and a granted reverse lookup answers that pair, or none if there is none.
 -- Rests on the laws of the reverse lookup, of a view that is accepted for writing.
-use Prim.Native.Nat.{ℕ}
-use mathlib.Core.Bool.{true}
-use mathlib.Core.Path.{_≡_, sym, ap, _∙_}
-use native.Mathlib.Omega.{arith}
-use Rattle.laws.proofs.Booleans.{check-inv, granted-yes}
+use Rattle.laws.proofs.Prelude.{ℕ, _≡_, sym, ap, _∙_, true, arith, check-inv, granted-yes}
 use Rattle.view.specs.declared.Owner.{Owner}
-use Rattle.view.specs.Rules.{accepted, allowsWriting}
+use Rattle.view.specs.Rules.{accepted}
+use Rattle.view.specs.Modes.{allowsWriting}
 use Rattle.view.specs.Owners.{OneOwner, Answers, ownerOf}
 use Rattle.view.proofs.Owning.{one-owner, owner-is, owner-only}
 use Rattle.file.specs.declared.Handle.{Handle}
 use Rattle.file.specs.declared.ReverseAnswer.{ReverseAnswer}
-use Rattle.file.specs.Handles.{viewOf, handleValid}
-use Rattle.file.specs.Refusals.{reverseRefusal}
+use Rattle.handle.specs.Handles.{handleValid}
+use Rattle.file.specs.Handles.{onPaper, viewOf}
+use Rattle.call_checks.specs.Refusals.{reverseRefusal}
 use Rattle.file.specs.Answers.{reverseAnswer}
-use Rattle.file.proofs.Checking.{accepts}
+use Rattle.call_checks.proofs.Handles.{held-accepts}
 use Rattle.claim_write.specs.Owners.{LookedUp}
 
-module _ (h : Handle) (k : handleValid h ≡ true) where
+module _ (h : Handle) (k : handleValid (onPaper h) ≡ true) where
   pub handle-accepts : accepted (h .mode) (viewOf h) ≡ true
-  unfolding viewOf
-  handle-accepts = accepts h k
+  handle-accepts = held-accepts (onPaper h) k
 
   handle-owner : allowsWriting (h .mode) ≡ true → OneOwner (viewOf h)
   handle-owner w = one-owner (h .mode) (viewOf h) handle-accepts w
 
 -- ---- a granted reverse lookup
 
-module _ (h : Handle) (z : reverseRefusal h ≡ 0) where
-  passed : (handleValid h ≡ true) × (allowsWriting (h .mode) ≡ true)
+module _ (h : Handle) (z : reverseRefusal (onPaper h) ≡ 0) where
+  passed : (handleValid (onPaper h) ≡ true) × (allowsWriting (h .mode) ≡ true)
   unfolding reverseRefusal
   passed = let c = check-inv _ 1 _ (omega arith) z in (c .0, check-inv _ 11 _ (omega arith) (c .1) .0)
 
@@ -48,7 +45,7 @@ module _ (h : Handle) (z : reverseRefusal h ≡ 0) where
 
 -- the claim, of any answer that the call gives
 module _ (h : Handle) (b : ℕ) (r : ReverseAnswer) (e : r ≡ reverseAnswer h b) where
-  is-granted : r .refusal ≡ 0 → reverseRefusal h ≡ 0
+  is-granted : r .refusal ≡ 0 → reverseRefusal (onPaper h) ≡ 0
   unfolding reverseAnswer
   is-granted z = sym (ap (λ x. x .refusal) e) ∙ z
 

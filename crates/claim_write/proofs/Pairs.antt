@@ -1,10 +1,6 @@
 -- The data of an access of c etypes at o, counted by pairs: data byte j of offset x is byte (x - o)·S + j of them, and each of the first c·S bytes is that of one pair.
 -- Rests on the arithmetic of quotients alone.
-use Prim.Native.Nat.{ℕ, _+_, _-_, _*_, _/_, _%_, _≤_, _<_}
-use mathlib.Core.Path.{_≡_, refl, ap, _∙_}
-use native.Mathlib.Nat.{div-add-mod', mod-lt}
-use native.Mathlib.Omega.{arith}
-use Rattle.laws.proofs.Quotients.{run-below, runs-below}
+use Rattle.laws.proofs.Prelude.{ℕ, _+_, _-_, _*_, _/_, _%_, _≤_, _<_, _≡_, refl, ap, _∙_, arith, div-add-mod', mod-lt, run-below, runs-below}
 use Rattle.view.specs.Types.{PaperView}
 use Rattle.view.specs.Places.{byteOf, dataSize}
 use Rattle.view.specs.Owners.{Belongs}

@@ -1,30 +1,21 @@
 -- A granted write and the read after it, at its offset and with its count: the read is granted, moves every etype written, and hands back the counted data.
 -- Rests on what a granted write leaves (Granted.antt), and on the movers' laws of a read.
-use Prim.Native.Nat.{ℕ, _*_, _≤_, _<_}
-use mathlib.Core.Bool.{true}
-use mathlib.Core.List.{List}
-use mathlib.Core.Logic.{⊎-elim}
-use mathlib.Core.Path.{_≡_, refl, sym, ap, _∙_, subst}
-use native.Mathlib.Omega.{arith}
-use borrow.Author.Tests.{le-leb}
-use lib.IntN.{ℤ, pos}
-use lib.ListN.{length, take}
-use lib.Seq.{ext-getD, getD-take, length-take-le}
-use Rattle.laws.proofs.Booleans.{lt-or-le, also-true, check-zero, granted-yes}
+use Rattle.laws.proofs.Prelude.{ℕ, _*_, _≤_, _<_, _≡_, refl, sym, ap, _∙_, subst, true, List, ⊎-elim, arith, length, take, ℤ, pos, ext-getD, getD-take, length-take-le, le-leb, lt-or-le, also-true, check-zero, granted-yes}
 use Rattle.view.specs.Limits.{fileAllowed}
 use Rattle.view.specs.Types.{PaperView, whole}
-use Rattle.view.specs.Rules.{allowsReading}
+use Rattle.view.specs.Modes.{allowsReading}
 use Rattle.view.specs.Places.{dataSize}
 use Rattle.move_read.specs.Moves.{AllBelow, moved, readInto, newSize, IsWritten}
 use Rattle.move_read.proofs.Writing.{write-end-is}
 use Rattle.move_read.proofs.Reading.{moved-only, read-is}
 use Rattle.file.specs.declared.ReadAnswer.{ReadAnswer}
 use Rattle.file.specs.declared.WriteAnswer.{WriteAnswer}
-use Rattle.file.specs.Handles.{viewOf, fileValid, pointerOffset}
-use Rattle.file.specs.Refusals.{accessRefusal, readRefusal}
+use Rattle.handle.specs.Handles.{fileValid}
+use Rattle.file.specs.Handles.{onPaper, viewOf, pointerOffset}
+use Rattle.call_checks.specs.Refusals.{accessRefusal, readRefusal}
 use Rattle.file.specs.Answers.{readCount, readAtAnswer, readBuffer, ReadAt}
-use Rattle.file.proofs.Checking.{handle-pointer, file-valid-handle, file-short, file-limit}
-use Rattle.file.proofs.Accessing.{start-at}
+use Rattle.call_checks.proofs.Handles.{held-pointer, file-handle, file-short, file-limit}
+use Rattle.file.proofs.Checking.{start-at}
 use Rattle.file.proofs.Readable.{start-read}
 use Rattle.claim_write.specs.declared.Begin.the-variants.{Pointer}
 use Rattle.claim_write.specs.declared.Write.{Write}
@@ -73,7 +64,7 @@ module _ (w : Write) (before after buffer into into' : List ℕ) (m : WriteAnswe
     same-limit = omega (arith, file-limit _ _ _ (g .checks .valid), g .bytes .long)
 
     -- check 1 of the read
-    read-valid : fileValid (m .handle) (length after) (m .file) ≡ true
+    read-valid : fileValid (onPaper (m .handle)) (length after) (m .file) ≡ true
     unfolding fileValid fileAllowed
     read-valid = also-true (g .passes) (also-true (le-leb _ _ same-limit) (le-leb _ _ new-short))
 
@@ -81,7 +72,7 @@ module _ (w : Write) (before after buffer into into' : List ℕ) (m : WriteAnswe
     unfolding countedBytes
     read-room = rw (g .same-view) room
 
-    read-passes : readRefusal (m .handle) (length after) (m .file) (offsetOf w) (w .count) (length into) ≡ 0
+    read-passes : readRefusal (onPaper (m .handle)) (length after) (m .file) (offsetOf w) (w .count) (length into) ≡ 0
     unfolding readRefusal accessRefusal
     read-passes = check-zero 1 read-valid (check-zero 11 (ap allowsReading (g .same-mode) ∙ reads) (check-zero 12 (g .checks .range) (check-zero 13 (le-leb _ _ read-room) refl)))
 
@@ -117,7 +108,7 @@ module _ (w : Write) (before after buffer into into' : List ℕ) (m : WriteAnswe
 
   -- check 1 refuses a write through a handle whose pointer is no offset
   past-refused : 4294967296 < w .handle .pointer → m .handle ≡ w .handle
-  past-refused l = refused-handle w before after buffer m made (λ y. omega (arith, handle-pointer (w .handle) (file-valid-handle _ _ _ (granted-write w before after buffer m made y .checks .valid))))
+  past-refused l = refused-handle w before after buffer m made (λ y. omega (arith, held-pointer (onPaper (w .handle)) (file-handle _ _ _ (granted-write w before after buffer m made y .checks .valid))))
 
   past-read : 4294967296 < w .handle .pointer → ReadAt (m .handle) after (m .file) (offsetOf w) (w .count) into into' n
   past-read l =

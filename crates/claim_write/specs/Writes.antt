@@ -8,7 +8,7 @@ use lib.IntN.{ℤ, pos}
 use lib.ListN.{length, take}
 use Rattle.laws.specs.Lists.{nth}
 use Rattle.view.specs.Types.{PaperView, SameView, whole}
-use Rattle.view.specs.Rules.{allowsReading}
+use Rattle.view.specs.Modes.{allowsReading}
 use Rattle.view.specs.Places.{dataSize}
 use Rattle.view.specs.Owners.{Belongs}
 use Rattle.file.specs.declared.Handle.{Handle}

@@ -1,65 +1,16 @@
--- Check 1, and what it leaves: a handle that passes it holds a valid view, and the file keeps its limits.
-use Prim.Native.Nat.{ℕ, _≤_}
-use mathlib.Core.Bool.{true}
-use mathlib.Core.Path.{_≡_, refl}
-use native.Mathlib.Omega.{arith}
-use borrow.Author.Tests.{eq-eqb, ne-eqb}
-use Rattle.laws.proofs.Booleans.{cond-yes, cond-no}
+-- A fresh handle, the mode that an open gets, and where an access at the pointer begins.
+use Rattle.laws.proofs.Prelude.{ℕ, _≤_, _<_, _≡_, refl, sym, ap, ⊎-elim, ℤ, pos, eq-eqb, ne-eqb, le-leb, lt-leb, cond-yes, cond-no, lt-or-le}
 use Rattle.view.specs.declared.View.{View}
-use Rattle.view.specs.Types.{paper, defaultView}
-use Rattle.view.specs.Rules.{accepted, Valid}
-use Rattle.call_checks.specs.Parts.{handlePartsValid, filePartsValid}
-use Rattle.call_checks.proofs.Handles.{held-accepts, held-view, held-pointer, file-handle}
-use Rattle.call_checks.proofs.Handles as checks
+use Rattle.view.specs.Limits.{pointerAllowed}
+use Rattle.view.specs.Types.{defaultView}
 use Rattle.file.specs.declared.Handle.{Handle}
-use Rattle.file.specs.declared.FileRecord.{FileRecord}
-use Rattle.file.specs.Handles.{viewOf, freshHandle, modeGot, handleValid, fileValid}
+use Rattle.file.specs.Handles.{freshHandle, modeGot, pointerOffset}
 
 -- ---- a fresh handle
 
 pub fresh-is : (mode : ℕ) (v : View) → v ≡ defaultView → record { mode = mode; pointer = 0; view = v } ≡ freshHandle mode
 unfolding freshHandle
 fresh-is mode v e = λ i. record { mode = mode; pointer = 0; view = e i }
-
--- ---- check 1, on the handle's mode, pointer and view
-
-module _ (h : Handle) where
-  module _ (k : handleValid h ≡ true) where
-    held : handlePartsValid (h .mode) (h .pointer) (h .view) ≡ true
-    unfolding handlePartsValid handleValid viewOf
-    held = k
-
-    pub accepts : accepted (h .mode) (paper (h .view)) ≡ true
-    accepts = held-accepts (h .mode) (h .pointer) (h .view) held
-
-    pub handle-view : Valid (paper (h .view))
-    handle-view = held-view (h .mode) (h .pointer) (h .view) held
-
-    pub handle-pointer : h .pointer ≤ 4294967296
-    handle-pointer = held-pointer (h .mode) (h .pointer) (h .view) held
-
-  module _ (len : ℕ) (r : FileRecord) (k : fileValid h len r ≡ true) where
-    file-held : filePartsValid (h .mode) (h .pointer) (h .view) len (r .size) ≡ true
-    unfolding filePartsValid handlePartsValid fileValid handleValid viewOf
-    file-held = k
-
-    pub file-valid-handle : handleValid h ≡ true
-    unfolding handlePartsValid handleValid viewOf
-    file-valid-handle = file-handle (h .mode) (h .pointer) (h .view) len (r .size) file-held
-
-    pub file-valid-view : Valid (paper (h .view))
-    file-valid-view = handle-view file-valid-handle
-
-    pub file-short : r .size ≤ len
-    file-short = checks.file-short (h .mode) (h .pointer) (h .view) len (r .size) file-held
-
-    pub file-limit : len ≤ 1099511627776
-    file-limit = checks.file-limit (h .mode) (h .pointer) (h .view) len (r .size) file-held
-
-    pub size-limit : r .size ≤ 1099511627776
-    size-limit = omega (arith, file-short, file-limit)
-
--- ---- modes
 
 pub mode-unnamed : (mode : ℕ) → mode ≡ 0 → 3 ≡ modeGot mode
 unfolding modeGot
@@ -68,3 +19,17 @@ mode-unnamed mode e = cond-yes _ 3 mode 3 (eq-eqb mode 0 e) refl
 pub mode-named : (mode : ℕ) → (mode ≡ 0 → ⊥) → mode ≡ modeGot mode
 unfolding modeGot
 mode-named mode n = cond-no _ 3 mode mode (ne-eqb mode 0 n) refl
+
+-- ---- where an access at the pointer begins
+
+pub start-past : (h : Handle) → 4294967296 < h .pointer → pos 0 ≡ pointerOffset h
+unfolding pointerOffset pointerAllowed
+start-past h l = cond-no _ (pos (h .pointer)) (pos 0) (pos 0) (lt-leb (h .pointer) 4294967296 l) refl
+
+pub start-at : (h : Handle) → h .pointer ≤ 4294967296 → (z : ℤ) → z ≡ pos (h .pointer) → z ≡ pointerOffset h
+unfolding pointerOffset pointerAllowed
+start-at h l z e = cond-yes _ (pos (h .pointer)) (pos 0) z (le-leb (h .pointer) 4294967296 l) e
+
+-- what does not go by the offset where check 1 refuses the pointer is the same at the pointer and where the access begins
+pub start-same : {A : Type 0} (h : Handle) (f : ℤ → A) → (4294967296 < h .pointer → (a b : ℤ) → f a ≡ f b) → f (pointerOffset h) ≡ f (pos (h .pointer))
+start-same h f past = ⊎-elim (λ l. past l _ _) (λ l. ap f (sym (start-at h l (pos (h .pointer)) refl))) (lt-or-le 4294967296 (h .pointer))

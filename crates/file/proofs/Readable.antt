@@ -1,59 +1,37 @@
--- A read: its answers at an offset and at the pointer, from what the access on the handle's parts answers.
-use Prim.Native.Nat.{ℕ, _+_, _<_}
-use mathlib.Core.List.{List}
-use mathlib.Core.Path.{_≡_, refl, sym, ap, _∙_}
-use native.Mathlib.Omega.{arith}
-use lib.IntN.{ℤ, pos}
-use lib.ListN.{length}
-use mir.Syntax.{w64}
-use mir.Val.{Fits}
-use Rattle.laws.specs.Checks.{granted}
-use Rattle.laws.proofs.Booleans.{check-no, granted-yes, granted-no}
-use Rattle.view.specs.declared.Numbers.{Numbers}
+-- A read: its answers at an offset and at the pointer, from what the access on its numbers answers.
+use Rattle.laws.proofs.Prelude.{ℕ, _+_, _<_, _≡_, refl, sym, ap, _∙_, List, arith, length, ℤ, pos, w64, Fits, granted, check-no, granted-yes, granted-no}
 use Rattle.view.specs.declared.Offset.{Offset}
+use Rattle.view.specs.declared.View.{View}
 use Rattle.view.specs.Types.{paper, whole}
-use Rattle.view.specs.Rules.{allowsReading}
-use Rattle.view.specs.Numbers.{numbersOf}
-use Rattle.call_range.specs.Parts.{accessChecked}
+use Rattle.view.specs.Modes.{allowsReading}
+use Rattle.handle.specs.declared.FileRecord.{FileRecord}
+use Rattle.handle.specs.Handles.{paperHandle}
 use Rattle.move_read.specs.Moves.{moved, readInto}
 use Rattle.move_read.proofs.Reading.{moved-is}
-use Rattle.call_checks.specs.Parts.{handlePartsValid, filePartsValid, accessPartsRefusal}
-use Rattle.call_checks.proofs.Accesses.{held-sum}
+use Rattle.call_checks.specs.Refusals.{accessRefusal, readRefusal}
+use Rattle.call_checks.proofs.Handles.{past-file, file-pointer}
+use Rattle.call_checks.proofs.Accesses.{access-file, access-sums}
 use Rattle.call_access.specs.declared.ReadOutcome.{ReadOutcome}
-use Rattle.call_access.specs.Parts.{readPartsRefusal, ReadMade}
+use Rattle.call_access.specs.Parts.{ReadMade}
 use Rattle.file.specs.declared.Handle.{Handle}
-use Rattle.file.specs.declared.FileRecord.{FileRecord}
 use Rattle.file.specs.declared.ReadAnswer.{ReadAnswer}
-use Rattle.file.specs.Handles.{viewOf, handleValid, fileValid, pointerOffset, withPointer}
-use Rattle.file.specs.Refusals.{accessRefusal, readRefusal}
+use Rattle.file.specs.Handles.{onPaper, viewOf, pointerOffset, withPointer}
 use Rattle.file.specs.Answers.{readCount, readAtAnswer, readBuffer, readAnswer, ReadAt, ReadNext}
 use Rattle.file.specs.Parts.{readRefused}
-use Rattle.file.proofs.Accessing.{past-valid, start-same}
-use Rattle.file.proofs.Lending.{viewOfParts, lent-same}
-
--- its checks are those on the handle's parts
-read-checked : (h : Handle) (len : ℕ) (r : FileRecord) (o : ℤ) (c room : ℕ) → readPartsRefusal (h .mode) (h .pointer) (h .view) len (r .size) o c room ≡ readRefusal h len r o c room
-unfolding readRefusal accessRefusal accessPartsRefusal accessChecked filePartsValid handlePartsValid fileValid handleValid viewOf
-read-checked h len r o c room = refl
+use Rattle.file.proofs.Checking.{start-same}
 
 -- ---- at an offset
 
-module _ (h : Handle) (file : List ℕ) (r : FileRecord) (o : ℤ) (c : ℕ) (before after : List ℕ) (f : Numbers) (s : f ≡ numbersOf (h .view)) (d : ReadOutcome) (made : ReadMade (h .mode) (h .pointer) (viewOfParts h f) file (r .size) o c before after d) where
-  read : ReadMade (h .mode) (h .pointer) (h .view) file (r .size) o c before after d
-  read = rw (lent-same h f s) at made
-
-  number : d .refusal ≡ readRefusal h (length file) r o c (length before)
-  number = read .refusal ∙ read-checked h (length file) r o c (length before)
-
+module _ (h : Handle) (file : List ℕ) (r : FileRecord) (o : ℤ) (c : ℕ) (before after : List ℕ) (d : ReadOutcome) (read : ReadMade (onPaper h) file r o c before after d) where
   counted : d .count ≡ readCount h (length file) r o c (length before)
-  unfolding readCount viewOf
-  counted = read .count ∙ ap (λ (n : ℕ). granted n (moved (paper (h .view)) (r .size) (whole o) c) 0) number
+  unfolding readCount
+  counted = read .count ∙ ap (λ (n : ℕ). granted n (moved (viewOf h) (r .size) (whole o) c) 0) (read .refusal)
 
   pub at-answered : ReadAt h file r o c before after (record { refusal = d .refusal; count = d .count; handle = h; file = r })
-  unfolding readAtAnswer readBuffer viewOf
+  unfolding readAtAnswer readBuffer
   at-answered = record {
-    answer = λ i. record { refusal = number i; count = counted i; handle = h; file = r };
-    buffer = read .buffer ∙ (λ i. granted (number i) (readInto (paper (h .view)) file (whole o) (counted i) before) before);
+    answer = λ i. record { refusal = read .refusal i; count = counted i; handle = h; file = r };
+    buffer = read .buffer ∙ (λ i. granted (read .refusal i) (readInto (viewOf h) file (whole o) (counted i) before) before);
   }
 
   pub at-none : (d .refusal ≡ 0 → ⊥) → d .count ≡ 0
@@ -61,11 +39,20 @@ module _ (h : Handle) (file : List ℕ) (r : FileRecord) (o : ℤ) (c : ℕ) (be
 
 -- ---- at the pointer
 
+-- check 1 bounds the pointer, check 12 the count
+pub pointer-fits : (mode pointer : ℕ) (v : View) (file : List ℕ) (r : FileRecord) (o : ℤ) (c : ℕ) (before after : List ℕ) (d : ReadOutcome) → ReadMade (paperHandle mode pointer v) file r o c before after d → d .refusal ≡ 0 → Fits w64 (pointer + d .count)
+unfolding readRefusal
+pointer-fits mode pointer v file r o c before after d made z =
+    let y = sym (made .refusal) ∙ z in
+    let k = access-file (allowsReading mode) (paperHandle mode pointer v) (length file) r o c (length before) 0 y in
+    let l = moved-is (paper v) (r .size) (whole o) c .most in
+    record { fits = omega (arith, file-pointer (paperHandle mode pointer v) (length file) r k, access-sums (allowsReading mode) (paperHandle mode pointer v) (length file) r o c (length before) 0 y, made .count, granted-yes (d .refusal) (moved (paper v) (r .size) (whole o) c) 0 z) }
+
 module _ (h : Handle) (file : List ℕ) (r : FileRecord) (c : ℕ) (before : List ℕ) where
   -- check 1 refuses a pointer that is no offset, whatever the offset
-  past-refused : 4294967296 < h .pointer → (o : ℤ) → readRefusal h (length file) r o c (length before) ≡ 1
-  unfolding readRefusal
-  past-refused l o = sym (check-no _ 1 _ 1 (past-valid h (length file) r l) refl)
+  past-refused : 4294967296 < h .pointer → (o : ℤ) → readRefusal (onPaper h) (length file) r o c (length before) ≡ 1
+  unfolding readRefusal accessRefusal
+  past-refused l o = sym (check-no _ 1 _ 1 (past-file (onPaper h) (length file) r l) refl)
 
   start-answer : readAtAnswer h (length file) r (pointerOffset h) c (length before) ≡ readAtAnswer h (length file) r (pos (h .pointer)) c (length before)
   unfolding readAtAnswer readCount granted
@@ -82,11 +69,11 @@ module _ (h : Handle) (file : List ℕ) (r : FileRecord) (c : ℕ) (before : Lis
     buffer = d .buffer ∙ ap (λ (x : ℤ). readBuffer h file r x c before) e ∙ start-buffer;
   }
 
-  module _ (after : List ℕ) (f : Numbers) (s : f ≡ numbersOf (h .view)) (d : ReadOutcome) (b : Offset) (e : b .0 ≡ pointerOffset h) (made : ReadMade (h .mode) (h .pointer) (viewOfParts h f) file (r .size) (b .0) c before after d) where
+  module _ (after : List ℕ) (d : ReadOutcome) (b : Offset) (e : b .0 ≡ pointerOffset h) (made : ReadMade (onPaper h) file r (b .0) c before after d) where
     at-pointer : ReadAt h file r (pos (h .pointer)) c before after (record { refusal = d .refusal; count = d .count; handle = h; file = r })
-    at-pointer = start-read after _ (b .0) e (at-answered h file r (b .0) c before after f s d made)
+    at-pointer = start-read after _ (b .0) e (at-answered h file r (b .0) c before after d made)
 
-    refusal-is : d .refusal ≡ readRefusal h (length file) r (pos (h .pointer)) c (length before)
+    refusal-is : d .refusal ≡ readRefusal (onPaper h) (length file) r (pos (h .pointer)) c (length before)
     unfolding readAtAnswer
     refusal-is = ap (λ x. x .refusal) (at-pointer .answer)
 
@@ -97,24 +84,17 @@ module _ (h : Handle) (file : List ℕ) (r : FileRecord) (c : ℕ) (before : Lis
     pub next-refused : (d .refusal ≡ 0 → ⊥) → (m : ReadAnswer) → m ≡ readRefused (d .refusal) h r → ReadNext h file r c before after m
     unfolding readAnswer readAtAnswer
     next-refused z m q =
-        let n = readRefusal h (length file) r (pos (h .pointer)) c (length before) in
+        let n = readRefusal (onPaper h) (length file) r (pos (h .pointer)) c (length before) in
         let x = readCount h (length file) r (pos (h .pointer)) c (length before) in
         let g = granted-no n (withPointer h (h .pointer + x)) h (λ y. z (refusal-is ∙ y)) in
-        let none = sym (at-none h file r (b .0) c before after f s d made z) ∙ count-is in
+        let none = sym (at-none h file r (b .0) c before after d made z) ∙ count-is in
         record { answer = q ∙ (λ i. record { refusal = refusal-is i; count = none i; handle = sym g i; file = r }); buffer = at-pointer .buffer }
 
     module _ (z : d .refusal ≡ 0) where
-      pub pointer-fits : Fits w64 (h .pointer + d .count)
-      unfolding readCount whole
-      pointer-fits =
-          let y = sym refusal-is ∙ z in
-          let l = moved-is (viewOf h) (r .size) (h .pointer) c .most in
-          record { fits = omega (arith, held-sum (allowsReading (h .mode)) (h .mode) (h .pointer) (h .view) (length file) (r .size) (pos (h .pointer)) c (length before) (read-checked h (length file) r (pos (h .pointer)) c (length before) ∙ y), count-is, granted-yes _ (moved (viewOf h) (r .size) (h .pointer) c) 0 y) }
-
       pub next-done : ReadNext h file r c before after (record { refusal = 0; count = d .count; handle = record { mode = h .mode; pointer = h .pointer + d .count; view = h .view }; file = r })
       unfolding readAnswer readAtAnswer withPointer
       next-done =
-          let n = readRefusal h (length file) r (pos (h .pointer)) c (length before) in
+          let n = readRefusal (onPaper h) (length file) r (pos (h .pointer)) c (length before) in
           let m = readCount h (length file) r (pos (h .pointer)) c (length before) in
           let y : n ≡ 0 = sym refusal-is ∙ z in
           let g = granted-yes n (withPointer h (h .pointer + m)) h y in

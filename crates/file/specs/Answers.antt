@@ -6,16 +6,18 @@ use mathlib.Core.Path.{_≡_}
 use lib.IntN.{ℤ, pos}
 use lib.ListN.{length}
 use Rattle.laws.specs.Checks.{granted}
-use Rattle.laws.specs.Lists.{front}
 use Rattle.view.specs.declared.Owner.the-variants.{Nobody}
-use Rattle.view.specs.Types.{PaperType, PaperView, entries, widthAt, displacementAt, extentOf, whole}
+use Rattle.view.specs.Types.{PaperType, PaperView, entries, extentOf, whole}
 use Rattle.view.specs.Rules.{recordOf}
 use Rattle.view.specs.Places.{place}
 use Rattle.view.specs.Owners.{ownerOf}
 use Rattle.view.specs.End.{endOfFile}
+use Rattle.view_typemap.specs.Typemaps.{widthsFilled, displacementsFilled}
+use Rattle.handle.specs.declared.FileRecord.{FileRecord}
+use Rattle.handle.specs.Handles.{withSize}
 use Rattle.move_read.specs.Moves.{moved, readInto, newSize, written}
+use Rattle.call_checks.specs.Refusals.{openRefusal, setViewRefusal, getViewRefusal, byteOffsetRefusal, reverseRefusal, endRefusal, seekTarget, seekRefusal, readRefusal, writeRefusal}
 use Rattle.file.specs.declared.Handle.{Handle}
-use Rattle.file.specs.declared.FileRecord.{FileRecord}
 use Rattle.file.specs.declared.OpenAnswer.{OpenAnswer}
 use Rattle.file.specs.declared.SetViewAnswer.{SetViewAnswer}
 use Rattle.file.specs.declared.TypeShape.{TypeShape}
@@ -26,8 +28,7 @@ use Rattle.file.specs.declared.EndAnswer.{EndAnswer}
 use Rattle.file.specs.declared.SeekAnswer.{SeekAnswer}
 use Rattle.file.specs.declared.ReadAnswer.{ReadAnswer}
 use Rattle.file.specs.declared.WriteAnswer.{WriteAnswer}
-use Rattle.file.specs.Handles.{viewOf, freshHandle, modeGot, withPointer, withView, withSize}
-use Rattle.file.specs.Refusals.{openRefusal, setViewRefusal, getViewRefusal, byteOffsetRefusal, reverseRefusal, endRefusal, seekTarget, seekRefusal, readRefusal, writeRefusal}
+use Rattle.file.specs.Handles.{onPaper, viewOf, freshHandle, modeGot, withPointer, withView}
 
 -- ---- open: the default view, pointer 0 and the mode got; a refused one has mode 0
 
@@ -40,7 +41,7 @@ openAnswer mode =
 
 unfoldable pub setViewAnswer : Handle → List ℕ → PaperView → SetViewAnswer
 setViewAnswer h representation v =
-    let n = setViewRefusal h representation v in
+    let n = setViewRefusal (onPaper h) representation v in
     record { refusal = n; count = 0; handle = granted n (withView h (recordOf v)) h }
 
 -- ---- giving back: four lists, both entry counts, both extents, the displacement
@@ -62,14 +63,7 @@ getViewAs n h = record {
 
 -- by the lengths of the four lent lists
 unfoldable pub getViewAnswer : Handle → ℕ → ℕ → ℕ → ℕ → GetViewAnswer
-getViewAnswer h ew ed fw fd = getViewAs (getViewRefusal h ew ed fw fd) h
-
--- a lent list of widths, and one of displacements, after a call with refusal number n; what lies after the used places stays
-unfoldable pub widthsFilled : ℕ → PaperType → List ℕ → List ℕ
-widthsFilled n t l = granted n (front (widthAt t) (entries t) l) l
-
-unfoldable pub displacementsFilled : ℕ → PaperType → List ℤ → List ℤ
-displacementsFilled n t l = granted n (front (λ i. pos (displacementAt t i)) (entries t) l) l
+getViewAnswer h ew ed fw fd = getViewAs (getViewRefusal (onPaper h) ew ed fw fd) h
 
 -- the whole of a giving back: the answer, and the four lists after it
 pub record GotView (h : Handle) (ew ew' : List ℕ) (ed ed' : List ℤ) (fw fw' : List ℕ) (fd fd' : List ℤ) (r : GetViewAnswer) : Type 0 where
@@ -83,38 +77,38 @@ pub record GotView (h : Handle) (ew ew' : List ℕ) (ed ed' : List ℤ) (fw fw' 
 
 unfoldable pub byteOffsetAnswer : Handle → ℤ → ByteOffsetAnswer
 byteOffsetAnswer h o =
-    let n = byteOffsetRefusal h o in
+    let n = byteOffsetRefusal (onPaper h) o in
     record { refusal = n; count = 0; handle = h; place = record { 0 = granted n (place (viewOf h) (whole o)) 0 } }
 
 unfoldable pub reverseAnswer : Handle → ℕ → ReverseAnswer
 reverseAnswer h b =
-    let n = reverseRefusal h in
+    let n = reverseRefusal (onPaper h) in
     record { refusal = n; count = 0; handle = h; owner = granted n (ownerOf (viewOf h) b) Nobody }
 
 unfoldable pub endAnswer : Handle → ℕ → FileRecord → EndAnswer
 endAnswer h len r =
-    let n = endRefusal h len r in
+    let n = endRefusal (onPaper h) len r in
     record { refusal = n; count = 0; handle = h; file = r; end = record { 0 = pos (granted n (endOfFile (viewOf h) (r .size)) 0) } }
 
 -- ---- seek: the pointer becomes the target
 
 unfoldable pub seekAnswer : Handle → ℕ → FileRecord → ℤ → ℕ → SeekAnswer
 seekAnswer h len r o whence =
-    let n = seekRefusal h len r o whence in
-    record { refusal = n; count = 0; handle = granted n (withPointer h (whole (seekTarget h r o whence))) h; file = r }
+    let n = seekRefusal (onPaper h) len r o whence in
+    record { refusal = n; count = 0; handle = granted n (withPointer h (whole (seekTarget (onPaper h) r o whence))) h; file = r }
 
 -- ---- a read of c at o, the buffer after it, and the same at the pointer, which it raises by the number moved
 
 unfoldable pub readCount : Handle → ℕ → FileRecord → ℤ → ℕ → ℕ → ℕ
-readCount h len r o c buffer = granted (readRefusal h len r o c buffer) (moved (viewOf h) (r .size) (whole o) c) 0
+readCount h len r o c buffer = granted (readRefusal (onPaper h) len r o c buffer) (moved (viewOf h) (r .size) (whole o) c) 0
 
 unfoldable pub readAtAnswer : Handle → ℕ → FileRecord → ℤ → ℕ → ℕ → ReadAnswer
 readAtAnswer h len r o c buffer =
-    record { refusal = readRefusal h len r o c buffer; count = readCount h len r o c buffer; handle = h; file = r }
+    record { refusal = readRefusal (onPaper h) len r o c buffer; count = readCount h len r o c buffer; handle = h; file = r }
 
 unfoldable pub readBuffer : Handle → List ℕ → FileRecord → ℤ → ℕ → List ℕ → List ℕ
 readBuffer h file r o c buffer =
-    granted (readRefusal h (length file) r o c (length buffer))
+    granted (readRefusal (onPaper h) (length file) r o c (length buffer))
     (readInto (viewOf h) file (whole o) (readCount h (length file) r o c (length buffer)) buffer)
     buffer
 
@@ -136,12 +130,12 @@ pub record ReadNext (h : Handle) (file : List ℕ) (r : FileRecord) (c : ℕ) (b
 
 unfoldable pub writeAtAnswer : Handle → ℕ → FileRecord → ℤ → ℕ → ℕ → WriteAnswer
 writeAtAnswer h len r o c buffer =
-    let n = writeRefusal h len r o c buffer in
+    let n = writeRefusal (onPaper h) len r o c buffer in
     record { refusal = n; count = granted n c 0; handle = h; file = granted n (withSize r (newSize (viewOf h) (r .size) (whole o) c)) r }
 
 unfoldable pub writtenFile : Handle → List ℕ → FileRecord → ℤ → ℕ → List ℕ → List ℕ
 writtenFile h file r o c buffer =
-    granted (writeRefusal h (length file) r o c (length buffer))
+    granted (writeRefusal (onPaper h) (length file) r o c (length buffer))
     (written (viewOf h) (r .size) (whole o) c buffer file)
     file
 

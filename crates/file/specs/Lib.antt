@@ -1,4 +1,3 @@
 pub mod Handles
-pub mod Refusals
 pub mod Answers
 pub mod Parts

@@ -154,3 +154,17 @@ cond-no b x y z h e = rw h e
 pub ruleset tests = (refl, le-ltb, lt-ltb, le-leb, lt-leb, eq-eqb, ne-eqb, flag-true, flag-false, unflag-true, unflag-false)
 
 pub ruleset checks = (tests, check-yes, check-no, also-yes, also-no, either-yes, either-else)
+
+-- ---- a chain with later checks at its end: it passes to them, or it answers as without them
+
+pub record Passes (ends : ℕ → ℕ) : Type 0 where
+  pub on : (later : ℕ) → ends 0 ≡ 0 → ends later ≡ later
+  pub stops : (later : ℕ) → (ends 0 ≡ 0 → ⊥) → ends later ≡ ends 0
+
+pub ends-here : Passes (λ later. later)
+ends-here = record { on = λ later h. refl; stops = λ later h. absurd (h refl) }
+
+pub check-passes : (b : Bool) (k : ℕ) (ends : ℕ → ℕ) → 0 < k → Passes ends → Passes (λ later. check b k (ends later))
+unfolding check
+check-passes true k ends l p = p
+check-passes false k ends l p = record { on = λ later h. absurd (omega arith); stops = λ later h. refl }

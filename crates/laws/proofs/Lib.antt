@@ -4,3 +4,5 @@ pub mod Sums
 pub mod Stores
 pub mod Quotients
 pub mod Runs
+pub mod Signs
+pub mod Prelude

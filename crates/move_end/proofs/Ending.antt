@@ -1,27 +1,14 @@
 -- The end of a write, from its last offsets alone: each earlier offset is the same instance of an earlier tile than one of them, and so lies before it.
 -- That places rise with the offset is not used.
-use Prim.Native.Nat.{ℕ, suc, _+_, _-_, _*_, _/_, _%_, _≤_, _<_, min, max}
-use mathlib.Core.Bool.{true}
-use mathlib.Core.Path.{_≡_, sym, ap, _∙_}
-use native.Mathlib.Nat.{add-mul, add-mul-div-right, add-mul-mod-self-right, div-mul-le-self, lt-div-mul-add, mod-lt, min-le-left}
-use native.Mathlib.Omega.{arith}
-use borrow.Author.Tests.{lt-ltb}
-use lib.IntN.{ℤ, pos}
-use mir.Syntax.{w64}
-use mir.Val.{Fits, toZ, ofZ}
-use Rattle.laws.specs.Lists.{nth}
-use Rattle.laws.specs.Search.{greatest}
-use Rattle.laws.proofs.Quotients.{run-below, runs-below}
-use Rattle.laws.proofs.Sums.{greatest-above, greatest-least}
+use Rattle.laws.proofs.Prelude.{ℕ, suc, _+_, _-_, _*_, _/_, _%_, _≤_, _<_, min, max, _≡_, sym, ap, _∙_, true, arith, add-mul, add-mul-div-right, add-mul-mod-self-right, div-mul-le-self, lt-div-mul-add, mod-lt, min-le-left, ℤ, pos, w64, Fits, toZ, ofZ, lt-ltb, greatest, nth, run-below, runs-below, greatest-above, greatest-least}
 use Rattle.view.specs.declared.View.{View}
 use Rattle.view.specs.Limits.{offsetAllowed}
 use Rattle.view.specs.Types.{PaperView, paper, whole, extentOf}
 use Rattle.view.specs.Rules.{instances, Valid}
 use Rattle.view.specs.Places.{place, byteOf, dataSize}
-use Rattle.view.specs.Numbers.{numbersOf}
 use Rattle.view.proofs.Paper.{paper-instances}
 use Rattle.view.proofs.Accepted.{facts, instances-some}
-use Rattle.rule_entries.specs.Parts.{reachOf}
+use Rattle.view.specs.Etypes.{reachOf}
 use Rattle.view_place.specs.declared.Spot.{Spot}
 use Rattle.view_place.specs.Spots.{spotAt, nextSpot}
 use Rattle.view.proofs.Held.{record-some}
@@ -111,15 +98,15 @@ module _ (v : View) (k : Valid (paper v)) where
 -- of those before x, the greatest end; r is how far an etype reaches
 pub record Ending (v : View) (from last r x : ℕ) (s : Spot) (end : ℕ) : Type 0 where
   pub walk : Walking v from last x s
-  pub reaches : r ≡ reachOf (v .etype .widths) (v .etype .displacements) (v .etype .entries)
+  pub reaches : r ≡ reachOf (v .widths) (v .displacements) (v .numbers .etype .entries)
   pub is : end ≡ greatest (λ i. endAt v (from + i)) (x - from)
 
 pub end-none : (v : View) (o c : ℕ) → c ≡ 0 → 0 ≡ writeEnd (paper v) o c
 end-none v o c e = sym (write-end-none (paper v) o) ∙ ap (writeEnd (paper v) o) (sym e)
 
-module _ (v : View) (o : ℤ) (c : ℕ) (h : Ranged v o c) (n : c ≡ 0 → ⊥) (t : ℕ) (e : t ≡ min c (v .filetype .instances)) where
+module _ (v : View) (o : ℤ) (c : ℕ) (h : Ranged v o c) (n : c ≡ 0 → ⊥) (t : ℕ) (e : t ≡ min c (v .numbers .filetype .instances)) where
   pub tail-few : t ≤ c
-  tail-few = omega (arith, min-le-left c (v .filetype .instances))
+  tail-few = omega (arith, min-le-left c (v .numbers .filetype .instances))
 
   tail-some : 0 < t
   tail-some = omega (arith, record-some v (h .valid), positive v o c h n)
@@ -142,7 +129,7 @@ module _ (v : View) (o : ℤ) (c : ℕ) (h : Ranged v o c) (n : c ≡ 0 → ⊥)
       unfolding offsetAllowed
       from-allowed = rw q (lt-ltb (first + (c - t)) 4294967296 (omega (arith, bound, tail-some)))
 
-      pub ending-none : (s : Spot) → s ≡ spotAt (numbersOf v) (whole z) → (r : ℕ) → r ≡ reachOf (v .etype .widths) (v .etype .displacements) (v .etype .entries) → Ending v (first + (c - t)) (first + (c - t) + t) r (first + (c - t)) s 0
+      pub ending-none : (s : Spot) → s ≡ spotAt (v .numbers) (whole z) → (r : ℕ) → r ≡ reachOf (v .widths) (v .displacements) (v .numbers .etype .entries) → Ending v (first + (c - t)) (first + (c - t) + t) r (first + (c - t)) s 0
       unfolding whole greatest
       ending-none s at r reaches =
           let d : first + (c - t) - (first + (c - t)) ≡ 0 = omega arith in
@@ -156,7 +143,7 @@ module _ (v : View) (o : ℤ) (c : ℕ) (h : Ranged v o c) (n : c ≡ 0 → ⊥)
         let w : t ≡ min c (instances (paper v)) = e ∙ ap (min c) (sym (paper-instances v (omega (arith, entries-valid v (h .valid) .some)))) in
         g .is ∙ ap (greatest (λ i. endAt v (first + (c - t) + i))) d ∙ tail-is v (h .valid) first c t w ∙ ap (λ (y : ℕ). writeEnd (paper v) y c) f
 
-pub ending-more : (v : View) (from last r x : ℕ) (s : Spot) (end : ℕ) → Ending v from last r x s end → x < last → (p : ℕ) → p ≡ s .tile .0 + nth (v .filetype .origins) (s .instance) → (m : ℕ) → m ≡ max end (p + r) → (s' : Spot) → s' ≡ nextSpot s (v .filetype .instances) (v .filetype .extent) → Ending v from last r (x + 1) s' m
+pub ending-more : (v : View) (from last r x : ℕ) (s : Spot) (end : ℕ) → Ending v from last r x s end → x < last → (p : ℕ) → p ≡ s .tile .0 + nth (v .origins) (s .instance) → (m : ℕ) → m ≡ max end (p + r) → (s' : Spot) → s' ≡ nextSpot s (v .numbers .filetype .instances) (v .numbers .filetype .extent) → Ending v from last r (x + 1) s' m
 unfolding greatest
 ending-more v from last r x s end g l p begins m e s' n =
     let d : x + 1 - from ≡ suc (x - from) = omega (arith, g .walk .begun) in
@@ -168,5 +155,5 @@ ending-more v from last r x s end g l p begins m e s' n =
       is = rw d (e ∙ ap (λ (y : ℕ). max y (p + r)) (g .is) ∙ ap (max (greatest (λ i. endAt v (from + i)) (x - from))) q);
     }
 
-pub ending-fits : (v : View) (from last r x : ℕ) (s : Spot) (end : ℕ) → Ending v from last r x s end → x < last → (p : ℕ) → p ≡ s .tile .0 + nth (v .filetype .origins) (s .instance) → Fits w64 (p + r)
+pub ending-fits : (v : View) (from last r x : ℕ) (s : Spot) (end : ℕ) → Ending v from last r x s end → x < last → (p : ℕ) → p ≡ s .tile .0 + nth (v .origins) (s .instance) → Fits w64 (p + r)
 ending-fits v from last r x s end g l p begins = walk-end-fits v from last x s (g .walk) l p begins r (g .reaches)

@@ -4,28 +4,30 @@ ghost use Rattle.view.specs.Types.{paper, whole};
 ghost use Rattle.view.specs.Numbers.{viewWith};
 ghost use Rattle.move_read.specs.Moves.{writeEnd};
 ghost use Rattle.move_read.specs.Parts.{Ranged};
+use handle::Access;
+use view::BytePos;
 use view::Numbers;
-use view::Offset;
 use view::PerEntry;
 use view::PerInstance;
 
-// The end of the highest byte that `count` etypes at `o` map to; 0 for none.
+// The end of the highest byte that an access maps to; 0 for none.
 // It looks at the last offsets alone, one for each instance at most: any earlier one is the same instance of an earlier tile. Places need not rise with the offset. For our own crates.
 pub fn write_end<'a>(
     v: Numbers,
     widths: &'a PerEntry,
     displacements: &'a PerEntry,
     origins: &'a PerInstance,
-    o: Offset,
-    count: u64,
-) -> u64
-    requires { ⌜ Ranged (viewWith v (now widths) (now displacements) (now origins)) (o .0) count ⌝ }
-    ensures { λ r. ⌜ r ≡ writeEnd (paper (viewWith v (now (widths .entry)) (now (displacements .entry)) (now (origins .entry)))) (whole (o .0)) count ⌝ }
+    access: Access,
+) -> BytePos
+    requires { ⌜ Ranged (viewWith v (now widths) (now displacements) (now origins)) (access .offset .0) (access .count) ⌝ }
+    ensures { λ r. ⌜ r .0 ≡ writeEnd (paper (viewWith v (now (widths .entry)) (now (displacements .entry)) (now (origins .entry)))) (whole (access .offset .0)) (access .count) ⌝ }
 {
+    let count = access.count;
     if count == 0 {
-        return 0;
+        return BytePos(0);
     }
-    let reach = rule_entries::reach_of(v.etype.entries, widths, displacements);
+    let o = access.offset;
+    let reach = v.etype.reach(widths, displacements);
     let tail = laws::smaller(count, v.filetype.instances);
     let skipped = count - tail;
     let from = view::natural(o.0) + skipped;
@@ -37,8 +39,8 @@ pub fn write_end<'a>(
         let place = view_place::begin_at(origins, spot);
         let one = place.0 + reach;
         end = laws::larger(end, one);
-        spot = view_place::next_spot(spot, v.filetype.instances, v.filetype.extent);
+        spot = view_place::next_spot(spot, v.filetype);
         x += 1;
     }
-    end
+    BytePos(end)
 }

@@ -1,65 +1,14 @@
 -- The data of one etype, entry by entry: no sum wraps, each entry lies inside, and the entries' runs make up the packed data.
-use Prim.Native.Nat.{ℕ, _+_, _*_, _^_, _≤_, _<_}
-use mathlib.Core.Bool.{true}
-use mathlib.Core.List.{List}
-use mathlib.Core.Path.{_≡_, refl, sym, ap, _∙_}
-use native.Mathlib.Nat.{mul-le-mul}
-use native.Mathlib.Omega.{arith}
-use lib.IntN.{pos}
-use lib.ListN.{length, getD}
-use mir.Syntax.{w64}
-use mir.Val.{Fits}
-use Rattle.laws.specs.Lists.{nth, store}
-use Rattle.laws.specs.Search.{total}
-use Rattle.laws.proofs.Stores.{store-none, length-tabulate, tabulate-at}
-use Rattle.laws.proofs.Runs.{store-run}
-use Rattle.laws.proofs.Sums.{greatest-above, total-more, total-part, total-same, total-most}
+use Rattle.laws.proofs.Prelude.{ℕ, _+_, _*_, _^_, _≤_, _<_, _≡_, refl, sym, ap, _∙_, true, List, arith, length, getD, pos, w64, Fits, needs, total, nth, store, store-none, length-tabulate, tabulate-at, greatest-above, total-part, total-same, total-most, store-run}
 use Rattle.view.specs.Limits.{widthAllowed}
 use Rattle.view.specs.Types.{entries, widthAt, displacementAt, whole}
 use Rattle.view.specs.Places.{packedBefore, dataAt}
+use Rattle.view.proofs.Accepted.{width-small}
 use Rattle.view.proofs.Packing.{data-run}
-use Rattle.rule_entries.specs.Parts.{EntriesValid, entryEnd, reachOf}
+use Rattle.view.proofs.Etypes.{Summed, summed-none, summed-more, summed-end, widths-valid, entry-held, entry-scaled}
+use Rattle.view.specs.Etypes.{entryEnd, reachOf, sizeOf}
 use Rattle.move_run.specs.Parts.{onward, byteFrom}
-use Rattle.move_etype.specs.Parts.{typeOf, WidthsValid, sizeOf, placeIn, byteIn, Lies}
-
--- ---- the entries of an etype
-
--- i of n entries are summed up
-pub record Summed (ws : List ℕ) (n i s : ℕ) : Type 0 where
-  pub reached : i ≤ n
-  pub is : s ≡ total (nth ws) i
-
-module _ (n : ℕ) (ws : List ℕ) where
-  pub summed-none : Summed ws n 0 0
-  unfolding total
-  summed-none = record { reached = omega arith; is = refl }
-
-  module _ (i s : ℕ) (h : Summed ws n i s) where
-    pub summed-more : i < n → Summed ws n (i + 1) (s + getD ws i 0)
-    summed-more l = record { reached = omega arith; is = omega (arith, total-more (nth ws) i, h .is) }
-
-    pub summed-end : n ≤ i → s ≡ sizeOf n ws
-    unfolding sizeOf
-    summed-end l = h .is ∙ ap (total (nth ws)) (omega (arith, h .reached))
-
-  pub widths-valid : (ds : List ℕ) → EntriesValid n ws ds → WidthsValid n ws
-  widths-valid ds k = record { few = k .few; small = λ i l. omega (arith, k .ends i l) }
-
-  module _ (k : WidthsValid n ws) where
-    pub entry-held : (i : ℕ) → i < n → i < 8
-    entry-held i l = omega (arith, k .few)
-
-    pub entry-scaled : (i : ℕ) → i < n → Fits w64 (i * 8)
-    entry-scaled i l = record { fits = omega (arith, k .few) }
-
-    sum-small : (i s : ℕ) → Summed ws n i s → s ≤ 8388608
-    sum-small i s h =
-        let m = total-most (nth ws) i 1048576 (λ j l. k .small j (omega (arith, h .reached))) in
-        let b = mul-le-mul {n₁ = i} {m₁ = 1048576} {n₂ = 8} {m₂ = 1048576} (omega (arith, h .reached, k .few)) (omega arith) in
-        omega (arith, h .is)
-
-    pub sum-fits : (i s : ℕ) → Summed ws n i s → i < n → Fits w64 (s + getD ws i 0)
-    sum-fits i s h l = record { fits = omega (arith, sum-small i s h, k .small i l) }
+use Rattle.move_etype.specs.Parts.{typeOf, placeIn, byteIn, Lies}
 
 -- ---- the data of an etype that begins at a, moved either way
 
@@ -69,6 +18,19 @@ pub record Copying (n : ℕ) (ws ds : List ℕ) (a len room : ℕ) (place value 
   pub sums : Summed ws n i packed
   pub long : length target ≡ length target₀
   pub done : target ≡ store place value packed target₀
+
+-- a run's `width` places or values are those of the packed data from `packed` on
+pub record Continues (packed width : ℕ) (run all : ℕ → ℕ) : Type 0 where
+  pub each : (k : ℕ) → k < width → run k ≡ all (packed + k)
+
+-- on the buffer's side, where the packed data begin at place 0
+pub buffer-places : (packed width : ℕ) → Continues packed width (onward packed) (λ k. k)
+unfolding onward
+buffer-places packed width = record { each = λ k q. refl }
+
+pub buffer-values : (packed width : ℕ) (part : List ℕ) → Continues packed width (byteFrom part packed) (nth part)
+unfolding byteFrom
+buffer-values packed width part = record { each = λ k q. refl }
 
 module _ (n : ℕ) (ws ds : List ℕ) where
   type-entries : entries (typeOf n ws ds) ≡ n
@@ -104,6 +66,10 @@ module _ (n : ℕ) (ws ds : List ℕ) where
       pub copying-end : n ≤ i → target ≡ store place value (sizeOf n ws) target₀
       copying-end l = h .done ∙ ap (λ (z : ℕ). store place value z target₀) (summed-end n ws i packed (h .sums) l)
 
+      -- the target is as long as it was
+      pub target-inside : (x : ℕ) → x ≤ length target₀ → x ≤ length target
+      target-inside x q = omega (arith, h .long)
+
       module _ (l : i < n) where
         pub copying-held : i < 8
         copying-held = entry-held n ws (widths-valid n ws ds (h .lies .valid)) i l
@@ -122,40 +88,33 @@ module _ (n : ℕ) (ws ds : List ℕ) where
         pub file-fits : len < 2 ^ 64 → Fits w64 (a + getD ds i 0)
         file-fits b = record { fits = omega (arith, file-inside) }
 
+        pub file-places : Continues packed (getD ws i 0) (onward (a + getD ds i 0)) (placeIn n ws ds a)
+        unfolding onward
+        file-places = record { each = λ k q. entry-place a i k l q ∙ ap (λ (z : ℕ). placeIn n ws ds a (z + k)) (sym (h .sums .is)) }
+
+        pub file-values : (file : List ℕ) → Continues packed (getD ws i 0) (byteFrom file (a + getD ds i 0)) (byteIn n ws ds file a)
+        unfolding onward byteFrom byteIn
+        file-values file = record { each = λ k q. ap (nth file) (file-places .each k q) }
+
         -- its packed data lie in the buffer
         pub packed-inside : packed + getD ws i 0 ≤ room
         unfolding sizeOf
         packed-inside = omega (arith, h .lies .fits, h .sums .is, total-part (nth ws) i n l)
 
-        pub packed-fits : room < 2 ^ 64 → Fits w64 (packed + getD ws i 0)
-        packed-fits b = record { fits = omega (arith, packed-inside) }
+        -- at most eight entries of at most eight bytes
+        pub copying-small : getD ws i 0 ≤ 8
+        copying-small = width-small (getD ws i 0) copying-width .1
+
+        pub packed-fits : (k : ℕ) → k ≤ 8 → Fits w64 (packed + k)
+        packed-fits k q = record { fits = omega (arith, h .sums .is, copying-held, total-most (nth ws) i 8 (λ j m. width-small (nth ws j) (h .lies .allowed j (omega arith)) .1)) }
 
         -- the entry's run continues the packed data
-        copying-run : (place' value' : ℕ → ℕ) (target' : List ℕ) → length target' ≡ length target → target' ≡ store place' value' (getD ws i 0) target → ((k : ℕ) → k < getD ws i 0 → place' k ≡ place (packed + k)) → ((k : ℕ) → k < getD ws i 0 → value' k ≡ value (packed + k)) → Copying n ws ds a len room place value target₀ target' (i + 1) (packed + getD ws i 0)
-        copying-run place' value' target' m e hp hv = record {
+        pub copying-more : (place' value' : ℕ → ℕ) (target' : List ℕ) → length target' ≡ length target → target' ≡ store place' value' (getD ws i 0) target → Continues packed (getD ws i 0) place' place → Continues packed (getD ws i 0) value' value → Copying n ws ds a len room place value target₀ target' (i + 1) (packed + getD ws i 0)
+        copying-more place' value' target' m e hp hv = record {
           lies = h .lies;
           sums = summed-more n ws i packed (h .sums) l;
           long = m ∙ h .long;
-          done = store-run place value place' value' packed (getD ws i 0) target₀ target target' (h .done) e hp hv;
+          done = store-run place value place' value' packed (getD ws i 0) target₀ target target' (h .done) e (hp .each) (hv .each);
         }
 
-        entry-at : (k : ℕ) → k < getD ws i 0 → a + getD ds i 0 + k ≡ placeIn n ws ds a (packed + k)
-        entry-at k q = entry-place a i k l q ∙ ap (λ (z : ℕ). placeIn n ws ds a (z + k)) (sym (h .sums .is))
-
-  -- out of the file, to the front of the part
-  module _ (file : List ℕ) (a : ℕ) (part₀ part : List ℕ) (i packed : ℕ) (h : Copying n ws ds a (length file) (length part₀) (λ k. k) (byteIn n ws ds file a) part₀ part i packed) (l : i < n) where
-    pub out-inside : packed + getD ws i 0 ≤ length part
-    out-inside = omega (arith, h .long, packed-inside a (length file) (length part₀) (λ k. k) (byteIn n ws ds file a) part₀ part i packed h l)
-
-    pub out-more : (part' : List ℕ) → length part' ≡ length part → part' ≡ store (onward packed) (byteFrom file (a + getD ds i 0)) (getD ws i 0) part → Copying n ws ds a (length file) (length part₀) (λ k. k) (byteIn n ws ds file a) part₀ part' (i + 1) (packed + getD ws i 0)
-    unfolding onward byteFrom byteIn
-    out-more part' m e = copying-run a (length file) (length part₀) (λ k. k) (byteIn n ws ds file a) part₀ part i packed h l (onward packed) (byteFrom file (a + getD ds i 0)) part' m e (λ k q. refl) (λ k q. ap (nth file) (entry-at a (length file) (length part₀) (λ k. k) (byteIn n ws ds file a) part₀ part i packed h l k q))
-
-  -- into the file, from the front of the part
-  module _ (part : List ℕ) (a : ℕ) (file₀ file : List ℕ) (i packed : ℕ) (h : Copying n ws ds a (length file₀) (length part) (placeIn n ws ds a) (nth part) file₀ file i packed) (l : i < n) where
-    pub in-inside : a + getD ds i 0 + getD ws i 0 ≤ length file
-    in-inside = omega (arith, h .long, file-inside a (length file₀) (length part) (placeIn n ws ds a) (nth part) file₀ file i packed h l)
-
-    pub in-more : (file' : List ℕ) → length file' ≡ length file → file' ≡ store (onward (a + getD ds i 0)) (byteFrom part packed) (getD ws i 0) file → Copying n ws ds a (length file₀) (length part) (placeIn n ws ds a) (nth part) file₀ file' (i + 1) (packed + getD ws i 0)
-    unfolding onward byteFrom
-    in-more file' m e = copying-run a (length file₀) (length part) (placeIn n ws ds a) (nth part) file₀ file i packed h l (onward (a + getD ds i 0)) (byteFrom part packed) file' m e (λ k q. entry-at a (length file₀) (length part) (placeIn n ws ds a) (nth part) file₀ file i packed h l k q) (λ k q. refl)
+pub ruleset copying = (needs, copying-none, copying-held, copying-width, copying-scaled, file-fits, copying-small, packed-fits, copying-more, file-places, file-values, buffer-places, buffer-values, copying-end)

@@ -4,25 +4,15 @@ use mathlib.Core.Bool.{true}
 use mathlib.Core.List.{List}
 use mathlib.Core.Path.{_≡_}
 use lib.IntN.{pos}
-use Rattle.laws.specs.Search.{total}
 use Rattle.laws.specs.Lists.{nth, tabulate}
-use Rattle.view.specs.Limits.{maxEtypeEntries, maxEntryEnd, widthAllowed}
+use Rattle.view.specs.Limits.{widthAllowed}
 use Rattle.view.specs.Types.{PaperType}
 use Rattle.view.specs.Places.{dataAt}
-use Rattle.rule_entries.specs.Parts.{EntriesValid, reachOf}
+use Rattle.view.specs.Etypes.{EntriesValid, reachOf, sizeOf}
 
 -- n entries of widths ws and displacements ds, as a type; its extent plays no part in where its data lie
 unfoldable pub typeOf : ℕ → List ℕ → List ℕ → PaperType
 typeOf n ws ds = record { widths = tabulate (nth ws) n; displacements = tabulate (λ i. pos (nth ds i)) n; extent = pos 0 }
-
--- n entries, none wider than the limit on an entry's end
-pub record WidthsValid (n : ℕ) (ws : List ℕ) : Type 0 where
-  pub few : n ≤ maxEtypeEntries
-  pub small : (i : ℕ) → i < n → nth ws i ≤ maxEntryEnd
-
--- S
-unfoldable pub sizeOf : ℕ → List ℕ → ℕ
-sizeOf n ws = total (nth ws) n
 
 -- where packed byte j lies in the file, of an etype that begins at a
 unfoldable pub placeIn : ℕ → List ℕ → List ℕ → ℕ → ℕ → ℕ

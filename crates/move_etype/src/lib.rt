@@ -2,38 +2,25 @@
 ghost use mathlib.Core.Path.{_≡_};
 ghost use lib.ListN.{length};
 ghost use Rattle.laws.specs.Lists.{nth, store, front};
-ghost use Rattle.move_etype.specs.Parts.{WidthsValid, sizeOf, placeIn, byteIn, Lies};
+ghost use Rattle.view.specs.Etypes.{sizeOf};
+ghost use Rattle.move_etype.specs.Parts.{placeIn, byteIn, Lies};
 use view::BytePos;
+use view::Numbers;
 use view::PerEntry;
-
-// S, how many data bytes an etype has: the sum of its widths.
-pub fn data_size(entries: u64, widths: &PerEntry) -> u64
-    requires { ⌜ WidthsValid entries (now widths) ⌝ }
-    ensures { λ r. ⌜ r ≡ sizeOf entries (now (widths .entry)) ⌝ }
-{
-    let n = entries as usize;
-    let mut size = 0;
-    let mut i = 0;
-    while i < n {
-        size += widths[i];
-        i += 1;
-    }
-    size
-}
 
 // Copies the data of the etype that begins at `at` out of the file to the front of `part`, packed in list order.
 pub fn copy_out<'a>(
-    entries: u64,
+    v: Numbers,
     widths: &'a PerEntry,
     displacements: &'a PerEntry,
     file: &[u8],
     at: BytePos,
     part: &mut [u8],
 )
-    requires { ⌜ Lies entries (now widths) (now displacements) (at .0) (length (now file)) (length (now part)) ⌝ }
-    ensures { λ r. ⌜ now (part .exit) ≡ front (byteIn entries (now (widths .entry)) (now (displacements .entry)) (now (file .entry)) (at .0)) (sizeOf entries (now (widths .entry))) (now (part .entry)) ⌝ }
+    requires { ⌜ Lies (v .etype .entries) (now widths) (now displacements) (at .0) (length (now file)) (length (now part)) ⌝ }
+    ensures { λ r. ⌜ now (part .exit) ≡ front (byteIn (v .etype .entries) (now (widths .entry)) (now (displacements .entry)) (now (file .entry)) (at .0)) (sizeOf (v .etype .entries) (now (widths .entry))) (now (part .entry)) ⌝ }
 {
-    let n = entries as usize;
+    let n = v.etype.entries as usize;
     let begin = at.0;
     let mut packed = 0;
     let mut i = 0;
@@ -48,17 +35,17 @@ pub fn copy_out<'a>(
 
 // Copies the front of `part` into the file as the packed data of the etype that begins at `at`.
 pub fn copy_in<'a>(
-    entries: u64,
+    v: Numbers,
     widths: &'a PerEntry,
     displacements: &'a PerEntry,
     part: &[u8],
     file: &mut [u8],
     at: BytePos,
 )
-    requires { ⌜ Lies entries (now widths) (now displacements) (at .0) (length (now file)) (length (now part)) ⌝ }
-    ensures { λ r. ⌜ now (file .exit) ≡ store (placeIn entries (now (widths .entry)) (now (displacements .entry)) (at .0)) (nth (now (part .entry))) (sizeOf entries (now (widths .entry))) (now (file .entry)) ⌝ }
+    requires { ⌜ Lies (v .etype .entries) (now widths) (now displacements) (at .0) (length (now file)) (length (now part)) ⌝ }
+    ensures { λ r. ⌜ now (file .exit) ≡ store (placeIn (v .etype .entries) (now (widths .entry)) (now (displacements .entry)) (at .0)) (nth (now (part .entry))) (sizeOf (v .etype .entries) (now (widths .entry))) (now (file .entry)) ⌝ }
 {
-    let n = entries as usize;
+    let n = v.etype.entries as usize;
     let begin = at.0;
     let mut taken = 0;
     let mut i = 0;

@@ -1,11 +1,5 @@
 -- The etype of a valid view as the copier takes it: its data are the view's, and it lies in the file exactly if its farthest entry does.
-use Prim.Native.Nat.{ℕ, _+_, _-_, _≤_, _<_}
-use mathlib.Core.Bool.{Bool, true, false}
-use mathlib.Core.Path.{_≡_, refl, sym, ap, _∙_}
-use native.Mathlib.Nat.{mul-le-mul}
-use native.Mathlib.Omega.{arith}
-use Rattle.laws.specs.Search.{total}
-use Rattle.laws.proofs.Sums.{greatest-least, greatest-above, greatest-one, total-same, total-most}
+use Rattle.laws.proofs.Prelude.{ℕ, _+_, _-_, _≤_, _<_, _≡_, refl, sym, ap, _∙_, Bool, true, false, arith, mul-le-mul, total, greatest-least, greatest-above, greatest-one, total-same, total-most}
 use Rattle.view.specs.declared.View.{View}
 use Rattle.view.specs.Types.{paper, entries, widthAt, displacementAt, whole}
 use Rattle.view.specs.Rules.{Valid}
@@ -14,8 +8,8 @@ use Rattle.view.proofs.Paper.{paper-entries, paper-width, paper-displacement}
 use Rattle.view.proofs.Accepted.{Facts, facts}
 use Rattle.view.proofs.Held.{some-entry, few-entries, record-entry}
 use Rattle.view.proofs.Packing.{packed-part, entry-below, entry-ends, entry-begins, data-run}
-use Rattle.rule_entries.specs.Parts.{EntriesValid, entryEnd, reachOf}
-use Rattle.move_etype.specs.Parts.{typeOf, sizeOf, placeIn}
+use Rattle.view.specs.Etypes.{EntriesValid, entryEnd, reachOf, sizeOf}
+use Rattle.move_etype.specs.Parts.{typeOf, placeIn}
 use Rattle.move_read.specs.Moves.{inFile}
 use Rattle.move_read.proofs.Reading.{in-file, in-file-at}
 
@@ -25,26 +19,26 @@ not-true-false false h = refl
 
 -- how far the etype's entries reach
 abbrev pub reach : View → ℕ
-reach v = reachOf (v .etype .widths) (v .etype .displacements) (v .etype .entries)
+reach v = reachOf (v .widths) (v .displacements) (v .numbers .etype .entries)
 
 module _ (v : View) (k : Valid (paper v)) where
   valid : Facts (paper v)
   valid = facts (paper v) k
 
   -- entry i of the record, and of the paper
-  entry-end : (i : ℕ) → i < v .etype .entries → entryEnd (v .etype .widths) (v .etype .displacements) i ≡ displacementAt (paper v .etype) i + widthAt (paper v .etype) i
+  entry-end : (i : ℕ) → i < v .numbers .etype .entries → entryEnd (v .widths) (v .displacements) i ≡ displacementAt (paper v .etype) i + widthAt (paper v .etype) i
   entry-end i l = omega (arith, paper-width v i l, paper-displacement v i l)
 
-  pub entries-valid : EntriesValid (v .etype .entries) (v .etype .widths) (v .etype .displacements)
+  pub entries-valid : EntriesValid (v .numbers .etype .entries) (v .widths) (v .displacements)
   entries-valid = record {
     some = some-entry v k;
     few = few-entries v k;
     ends = record-entry v k;
   }
 
-  pub data-is : sizeOf (v .etype .entries) (v .etype .widths) ≡ dataSize (paper v)
+  pub data-is : sizeOf (v .numbers .etype .entries) (v .widths) ≡ dataSize (paper v)
   unfolding sizeOf dataSize packedBefore
-  data-is = sym (ap (total (widthAt (paper v .etype))) (paper-entries v) ∙ total-same _ _ (v .etype .entries) (λ i l. paper-width v i l))
+  data-is = sym (ap (total (widthAt (paper v .etype))) (paper-entries v) ∙ total-same _ _ (v .numbers .etype .entries) (λ i l. paper-width v i l))
 
   pub data-small : dataSize (paper v) ≤ 64
   unfolding dataSize packedBefore
@@ -53,27 +47,27 @@ module _ (v : View) (k : Valid (paper v)) where
       let b = mul-le-mul {n₁ = entries (paper v .etype)} {m₁ = 8} {n₂ = 8} {m₂ = 8} (valid .few) (omega arith) in
       omega arith
 
-  pub place-in : (x j : ℕ) → placeIn (v .etype .entries) (v .etype .widths) (v .etype .displacements) (place (paper v) x) j ≡ byteOf (paper v) x j
+  pub place-in : (x j : ℕ) → placeIn (v .numbers .etype .entries) (v .widths) (v .displacements) (place (paper v) x) j ≡ byteOf (paper v) x j
   unfolding placeIn byteOf typeOf dataAt entryOf packedBefore entries widthAt displacementAt whole paper
   place-in x j = refl
 
   pub reach-small : reach v ≤ 1048576
   unfolding reachOf
-  reach-small = greatest-least _ (v .etype .entries) 1048576 (entries-valid .ends)
+  reach-small = greatest-least _ (v .numbers .etype .entries) 1048576 (entries-valid .ends)
 
   -- entry i ends within the reach
   entry-reached : (i : ℕ) → i < entries (paper v .etype) → displacementAt (paper v .etype) i + widthAt (paper v .etype) i ≤ reach v
   unfolding reachOf
   entry-reached i l =
-      let b : i < v .etype .entries = omega (arith, paper-entries v) in
-      omega (arith, entry-end i b, greatest-above (entryEnd (v .etype .widths) (v .etype .displacements)) (v .etype .entries) i b)
+      let b : i < v .numbers .etype .entries = omega (arith, paper-entries v) in
+      omega (arith, entry-end i b, greatest-above (entryEnd (v .widths) (v .displacements)) (v .numbers .etype .entries) i b)
 
   -- an entry that ends at the reach: one is there, since no width is 0
   farthest : (i : ℕ) × ((i < entries (paper v .etype)) × (displacementAt (paper v .etype) i + widthAt (paper v .etype) i ≡ reach v))
   unfolding reachOf
   farthest =
       let w = valid .width 0 (valid .some) .0 in
-      let g = greatest-one (entryEnd (v .etype .widths) (v .etype .displacements)) (v .etype .entries) (omega (arith, entry-reached 0 (valid .some))) in
+      let g = greatest-one (entryEnd (v .widths) (v .displacements)) (v .numbers .etype .entries) (omega (arith, entry-reached 0 (valid .some))) in
       (g .0, (omega (arith, paper-entries v, g .1 .0), omega (arith, entry-end (g .0) (g .1 .0), g .1 .1)))
 
   -- each data byte lies before the reach

@@ -1,28 +1,13 @@
 -- The reading mover: before offset x every earlier etype lay in the file and is copied.
-use Prim.Native.Nat.{ℕ, _+_, _-_, _*_, _^_, _≤_, _<_}
-use mathlib.Core.Bool.{Bool}
-use mathlib.Core.List.{List, _++_}
-use mathlib.Core.Path.{_≡_, refl, sym, ap, _∙_}
-use native.Mathlib.Nat.{zero-mul}
-use native.Mathlib.Omega.{arith}
-use lib.IntN.{ℤ}
-use lib.ListN.{length, take, drop, length-drop}
-use mir.Syntax.{w64}
-use mir.Val.{Fits, toZ, ofZ}
-use Rattle.laws.specs.Lists.{nth, store, front}
-use Rattle.laws.proofs.Searching.{Passed, passed-none, passed-more, passed-stop, passed-end}
-use Rattle.laws.proofs.Stores.{store-none, length-store}
-use Rattle.laws.proofs.Runs.{store-run, tail-lent, tail-back}
-use Rattle.laws.proofs.Quotients.{times-more}
+use Rattle.laws.proofs.Prelude.{ℕ, _+_, _-_, _*_, _^_, _≤_, _<_, _≡_, refl, sym, ap, _∙_, Bool, List, _++_, arith, zero-mul, length, take, drop, length-drop, ℤ, w64, Fits, toZ, ofZ, nth, store, front, Passed, passed-none, passed-more, passed-stop, passed-end, times-more, store-none, length-store, store-run, tail-lent, tail-back}
 use Rattle.view.specs.declared.View.{View}
 use Rattle.view.specs.Types.{PaperView, paper, whole}
 use Rattle.view.specs.Places.{place, byteOf, dataSize}
-use Rattle.view.specs.Numbers.{numbersOf}
 use Rattle.view.proofs.Held.{record-allowed}
-use Rattle.rule_entries.specs.Parts.{reachOf}
+use Rattle.view.specs.Etypes.{reachOf, sizeOf}
 use Rattle.view_place.specs.declared.Spot.{Spot}
 use Rattle.view_place.specs.Spots.{spotAt, nextSpot}
-use Rattle.move_etype.specs.Parts.{sizeOf, byteIn, placeIn, Lies}
+use Rattle.move_etype.specs.Parts.{byteIn, placeIn, Lies}
 use Rattle.move_read.specs.Moves.{fileByte, inFile, moved, readInto}
 use Rattle.move_read.specs.Parts.{Movable, ReadDone}
 use Rattle.move_read.proofs.Etypes.{entries-valid, data-is, place-in, in-file-yes, in-file-no}
@@ -35,8 +20,8 @@ lying v size o t = inFile v size (o + t)
 -- S is the data size and r how far an etype reaches
 pub record Gathering (v : View) (file : List ℕ) (size o c S r : ℕ) (buf₀ buf : List ℕ) (x : ℕ) (s : Spot) : Type 0 where
   pub walk : Walking v o (o + c) x s
-  pub sized : S ≡ sizeOf (v .etype .entries) (v .etype .widths)
-  pub reaches : r ≡ reachOf (v .etype .widths) (v .etype .displacements) (v .etype .entries)
+  pub sized : S ≡ sizeOf (v .numbers .etype .entries) (v .widths)
+  pub reaches : r ≡ reachOf (v .widths) (v .displacements) (v .numbers .etype .entries)
   pub short : size ≤ length file
   pub room : c * dataSize (paper v) ≤ length buf₀
   pub held : length buf₀ < 2 ^ 64
@@ -56,7 +41,7 @@ module _ (v : View) (file buf₀ : List ℕ) (size : ℕ) (o : ℤ) (c : ℕ) (h
   is : first ≡ whole o
   is = first-is v o c (h .ranged) some first read
 
-  pub gathering-none : S ≡ sizeOf (v .etype .entries) (v .etype .widths) → r ≡ reachOf (v .etype .widths) (v .etype .displacements) (v .etype .entries) → (s : Spot) → s ≡ spotAt (numbersOf v) (whole o) → length buf₀ < 2 ^ 64 → Gathering v file size first c S r buf₀ buf₀ first s
+  pub gathering-none : S ≡ sizeOf (v .numbers .etype .entries) (v .widths) → r ≡ reachOf (v .widths) (v .displacements) (v .numbers .etype .entries) → (s : Spot) → s ≡ spotAt (v .numbers) (whole o) → length buf₀ < 2 ^ 64 → Gathering v file size first c S r buf₀ buf₀ first s
   unfolding readInto
   gathering-none sized reaches s at held =
       let e : first - first ≡ 0 = omega arith in
@@ -84,7 +69,7 @@ module _ (v : View) (file buf₀ : List ℕ) (size : ℕ) (o : ℤ) (c : ℕ) (h
         }
 
     -- the etype at x, which begins at p, does not lie in the file
-    pub gather-stop : x < first + c → (p : ℕ) → p ≡ s .tile .0 + nth (v .filetype .origins) (s .instance) → size < p + r → ReadDone v file size o c buf₀ (x - first) buf
+    pub gather-stop : x < first + c → (p : ℕ) → p ≡ s .tile .0 + nth (v .origins) (s .instance) → size < p + r → ReadDone v file size o c buf₀ (x - first) buf
     unfolding moved
     gather-stop l p begins q =
         let at-x : first + (x - first) ≡ x = omega (arith, g .walk .begun) in
@@ -105,7 +90,7 @@ module _ (v : View) (file buf₀ : List ℕ) (size o c S r : ℕ) (buf : List �
   pub from-inside : (x - o) * S ≤ length buf
   from-inside = omega (arith, runs)
 
-  module _ (p : ℕ) (begins : p ≡ s .tile .0 + nth (v .filetype .origins) (s .instance)) where
+  module _ (p : ℕ) (begins : p ≡ s .tile .0 + nth (v .origins) (s .instance)) where
     p-is : p ≡ place (paper v) x
     p-is = walk-place v o (o + c) x s (g .walk) l p begins
 
@@ -114,7 +99,7 @@ module _ (v : View) (file buf₀ : List ℕ) (size o c S r : ℕ) (buf : List �
 
     -- it lies in the file
     module _ (q : p + r ≤ size) where
-      pub gather-lies : Lies (v .etype .entries) (v .etype .widths) (v .etype .displacements) p (length file) (length (take (length buf - (x - o) * S) (drop ((x - o) * S) buf)))
+      pub gather-lies : Lies (v .numbers .etype .entries) (v .widths) (v .displacements) p (length file) (length (take (length buf - (x - o) * S) (drop ((x - o) * S) buf)))
       gather-lies = record {
         valid = entries-valid v (g .walk .valid);
         allowed = record-allowed v (g .walk .valid);
@@ -122,10 +107,10 @@ module _ (v : View) (file buf₀ : List ℕ) (size o c S r : ℕ) (buf : List �
         fits = rw (← g .sized, tail-lent ((x - o) * S) buf, length-drop ((x - o) * S) buf) (omega (arith, runs));
       }
 
-      pub gather-more : (part : List ℕ) (s' : Spot) → part ≡ front (byteIn (v .etype .entries) (v .etype .widths) (v .etype .displacements) file p) (sizeOf (v .etype .entries) (v .etype .widths)) (take (length buf - (x - o) * S) (drop ((x - o) * S) buf)) → s' ≡ nextSpot s (v .filetype .instances) (v .filetype .extent) → Gathering v file size o c S r buf₀ (take ((x - o) * S) buf ++ (part ++ drop (length buf - (x - o) * S) (drop ((x - o) * S) buf))) (x + 1) s'
+      pub gather-more : (part : List ℕ) (s' : Spot) → part ≡ front (byteIn (v .numbers .etype .entries) (v .widths) (v .displacements) file p) (sizeOf (v .numbers .etype .entries) (v .widths)) (take (length buf - (x - o) * S) (drop ((x - o) * S) buf)) → s' ≡ nextSpot s (v .numbers .filetype .instances) (v .numbers .filetype .extent) → Gathering v file size o c S r buf₀ (take ((x - o) * S) buf ++ (part ++ drop (length buf - (x - o) * S) (drop ((x - o) * S) buf))) (x + 1) s'
       unfolding readInto byteIn
       gather-more part s' e n =
-          let b = tail-back (λ k. k) (byteIn (v .etype .entries) (v .etype .widths) (v .etype .displacements) file p) ((x - o) * S) (sizeOf (v .etype .entries) (v .etype .widths)) buf part from-inside e in
+          let b = tail-back (λ k. k) (byteIn (v .numbers .etype .entries) (v .widths) (v .displacements) file p) ((x - o) * S) (sizeOf (v .numbers .etype .entries) (v .widths)) buf part from-inside e in
           let t : x + 1 - o ≡ x - o + 1 = omega (arith, g .walk .begun) in
           let at-x : o + (x - o) ≡ x = omega (arith, g .walk .begun) in
           let y = in-file-yes v (g .walk .valid) size x (omega (arith, p-is, g .reaches)) in
@@ -139,12 +124,12 @@ module _ (v : View) (file buf₀ : List ℕ) (size o c S r : ℕ) (buf : List �
             room = g .room;
             held = g .held;
             passed = rw t (passed-more _ (x - o) c (g .passed) (omega (arith, g .walk .begun)) (rw at-x y));
-            long = ap length b ∙ length-store _ _ (sizeOf (v .etype .entries) (v .etype .widths)) buf ∙ g .long;
+            long = ap length b ∙ length-store _ _ (sizeOf (v .numbers .etype .entries) (v .widths)) buf ∙ g .long;
             done = rw (t, times-more (x - o) (dataSize (paper v)))
-                (store-run (λ k. k) (λ i. nth file (fileByte (paper v) o i)) (λ k. (x - o) * S + k) (byteIn (v .etype .entries) (v .etype .widths) (v .etype .displacements) file p) ((x - o) * dataSize (paper v)) (dataSize (paper v)) buf₀ buf _ (g .done) (b ∙ ap (λ (z : ℕ). front-from z) (data-is v (g .walk .valid)))
+                (store-run (λ k. k) (λ i. nth file (fileByte (paper v) o i)) (λ k. (x - o) * S + k) (byteIn (v .numbers .etype .entries) (v .widths) (v .displacements) file p) ((x - o) * dataSize (paper v)) (dataSize (paper v)) buf₀ buf _ (g .done) (b ∙ ap (λ (z : ℕ). front-from z) (data-is v (g .walk .valid)))
                 (λ k l. omega (arith, m))
-                (λ k l. ap (nth file) (ap (λ (z : ℕ). placeIn (v .etype .entries) (v .etype .widths) (v .etype .displacements) z k) p-is ∙ place-in v (g .walk .valid) x k ∙ ap (λ (z : ℕ). byteOf (paper v) z k) (sym at-x) ∙ sym (file-byte-run (paper v) o (x - o) k l))));
+                (λ k l. ap (nth file) (ap (λ (z : ℕ). placeIn (v .numbers .etype .entries) (v .widths) (v .displacements) z k) p-is ∙ place-in v (g .walk .valid) x k ∙ ap (λ (z : ℕ). byteOf (paper v) z k) (sym at-x) ∙ sym (file-byte-run (paper v) o (x - o) k l))));
           }
         where
           front-from : ℕ → List ℕ
-          front-from z = store (λ k. (x - o) * S + k) (byteIn (v .etype .entries) (v .etype .widths) (v .etype .displacements) file p) z buf
+          front-from z = store (λ k. (x - o) * S + k) (byteIn (v .numbers .etype .entries) (v .widths) (v .displacements) file p) z buf

@@ -1,17 +1,5 @@
 -- A read (a module may not be called `Reads`): the number that `moved` finds, and the buffer that `readInto` makes, are the ones that document 01 describes, and no others are.
-use Prim.Native.Nat.{ℕ, _+_, _-_, _*_, _≤_, _<_}
-use mathlib.Core.Bool.{true, false}
-use mathlib.Core.List.{List}
-use mathlib.Core.Logic.{⊎-elim}
-use mathlib.Core.Path.{_≡_, sym, _∙_}
-use native.Mathlib.Omega.{arith}
-use borrow.Author.Tests.{ltb-true, lt-ltb}
-use lib.ListN.{length}
-use lib.Seq.{ext-getD}
-use Rattle.laws.specs.Lists.{nth}
-use Rattle.laws.proofs.Booleans.{lt-or-le, not-both}
-use Rattle.laws.proofs.Searching.{first-le, first-keeps, first-breaks, all-intro, all-at}
-use Rattle.laws.proofs.Stores.{length-store, front-at, front-past}
+use Rattle.laws.proofs.Prelude.{ℕ, _+_, _-_, _*_, _≤_, _<_, _≡_, sym, _∙_, true, false, List, ⊎-elim, arith, length, ext-getD, ltb-true, lt-ltb, nth, lt-or-le, not-both, first-le, first-keeps, first-breaks, all-intro, all-at, length-store, front-at, front-past}
 use Rattle.view.specs.Types.{PaperView}
 use Rattle.view.specs.Places.{byteOf, dataSize}
 use Rattle.move_read.specs.Moves.{AllBelow, IsMoved, inFile, moved, IsRead, readInto}

@@ -1,29 +1,17 @@
 -- What both movers and the end of a write share: a walk from the spot of an offset to that of the next, in which no sum wraps, and the part of the buffer that belongs to each etype.
-use Prim.Native.Nat.{ℕ, _+_, _-_, _*_, _≤_, _<_}
-use mathlib.Core.Bool.{true}
-use mathlib.Core.List.{List}
-use mathlib.Core.Logic.{⊎-elim}
-use mathlib.Core.Path.{_≡_, ap, _∙_}
-use native.Mathlib.Nat.{eq-zero-or-pos, mul-le-mul-right}
-use native.Mathlib.Omega.{arith}
-use lib.IntN.{ℤ}
-use mir.Syntax.{w64}
-use mir.Val.{Fits, toZ, ofZ}
-use Rattle.laws.specs.Lists.{nth}
-use Rattle.laws.proofs.Quotients.{run-div, run-mod, times-more}
+use Rattle.laws.proofs.Prelude.{ℕ, _+_, _-_, _*_, _≤_, _<_, _≡_, ap, _∙_, true, List, ⊎-elim, arith, eq-zero-or-pos, mul-le-mul-right, ℤ, w64, Fits, toZ, ofZ, nth, run-div, run-mod, times-more}
 use Rattle.view.specs.declared.View.{View}
 use Rattle.view.specs.declared.Numbers.{Numbers}
 use Rattle.view.specs.Limits.{offsetAllowed}
 use Rattle.view.specs.Types.{PaperView, paper, whole}
 use Rattle.view.specs.Rules.{Valid}
 use Rattle.view.specs.Places.{place, byteOf, dataSize}
-use Rattle.view.specs.Numbers.{numbersOf, viewWith}
-use Rattle.rule_entries.specs.Parts.{reachOf}
+use Rattle.view.specs.Numbers.{viewWith}
+use Rattle.view.specs.Etypes.{reachOf, sizeOf}
 use Rattle.view_place.specs.declared.Spot.{Spot}
 use Rattle.view_place.specs.Spots.{Tiled, spotAt, nextSpot, SpotValid}
 use Rattle.view_place.proofs.Placing.{offset-read, spot-held, spot-placed, spot-step, spot-small, spot-valid, spot-next}
 use Rattle.view_place.proofs.Laid.{tiled, origins-low, place-is}
-use Rattle.move_etype.specs.Parts.{sizeOf}
 use Rattle.move_read.specs.Moves.{fileByte}
 use Rattle.move_read.specs.Parts.{Ranged}
 use Rattle.move_read.proofs.Etypes.{data-is, reach-small}
@@ -39,43 +27,43 @@ pub record Walking (v : View) (o last x : ℕ) (s : Spot) : Type 0 where
   pub bound : last ≤ 4294967296
   pub begun : o ≤ x
   pub reached : x ≤ last
-  pub spot : s ≡ spotAt (numbersOf v) x
+  pub spot : s ≡ spotAt (v .numbers) x
 
-pub walk-none : (v : View) (o last : ℕ) (s : Spot) → Valid (paper v) → last ≤ 4294967296 → o ≤ last → s ≡ spotAt (numbersOf v) o → Walking v o last o s
+pub walk-none : (v : View) (o last : ℕ) (s : Spot) → Valid (paper v) → last ≤ 4294967296 → o ≤ last → s ≡ spotAt (v .numbers) o → Walking v o last o s
 walk-none v o last s k b l at = record { valid = k; bound = b; begun = omega arith; reached = l; spot = at }
 
 module _ (v : View) (o last x : ℕ) (s : Spot) (w : Walking v o last x s) (l : x < last) where
   below : x < 4294967296
   below = omega (arith, w .bound)
 
-  tiles : Tiled (numbersOf v)
+  tiles : Tiled (v .numbers)
   tiles = tiled v (w .valid)
 
   pub walk-fits : Fits w64 (x + 1)
   walk-fits = record { fits = omega (arith, below) }
 
   pub walk-held : s .instance < 64
-  walk-held = spot-held (numbersOf v) tiles x s (w .spot)
+  walk-held = spot-held (v .numbers) tiles x s (w .spot)
 
-  pub walk-more : (s' : Spot) → s' ≡ nextSpot s (v .filetype .instances) (v .filetype .extent) → Walking v o last (x + 1) s'
+  pub walk-more : (s' : Spot) → s' ≡ nextSpot s (v .numbers .filetype .instances) (v .numbers .filetype .extent) → Walking v o last (x + 1) s'
   walk-more s' n = record {
     valid = w .valid;
     bound = w .bound;
     begun = omega (arith, w .begun);
     reached = omega arith;
-    spot = spot-next (numbersOf v) tiles x s (w .spot) s' n;
+    spot = spot-next (v .numbers) tiles x s (w .spot) s' n;
   }
 
   -- p is where the etype at x begins, r how far it reaches
-  module _ (p : ℕ) (begins : p ≡ s .tile .0 + nth (v .filetype .origins) (s .instance)) where
+  module _ (p : ℕ) (begins : p ≡ s .tile .0 + nth (v .origins) (s .instance)) where
     pub walk-place : p ≡ place (paper v) x
-    walk-place = spot-placed (numbersOf v) tiles x s (w .spot) (v .filetype .origins) p begins ∙ place-is v (w .valid) x
+    walk-place = spot-placed (v .numbers) tiles x s (w .spot) (v .origins) p begins ∙ place-is v (w .valid) x
 
-    pub walk-end-fits : (r : ℕ) → r ≡ reachOf (v .etype .widths) (v .etype .displacements) (v .etype .entries) → Fits w64 (p + r)
-    walk-end-fits r e = record { fits = omega (arith, spot-small (numbersOf v) tiles x s (w .spot) (v .filetype .origins) (origins-low v (w .valid)) below, reach-small v (w .valid)) }
+    pub walk-end-fits : (r : ℕ) → r ≡ reachOf (v .widths) (v .displacements) (v .numbers .etype .entries) → Fits w64 (p + r)
+    walk-end-fits r e = record { fits = omega (arith, spot-small (v .numbers) tiles x s (w .spot) (v .origins) (origins-low v (w .valid)) below, reach-small v (w .valid)) }
 
   -- S bytes of the buffer, from (x - o)·S on, are the etype's
-  module _ (S : ℕ) (sized : S ≡ sizeOf (v .etype .entries) (v .etype .widths)) where
+  module _ (S : ℕ) (sized : S ≡ sizeOf (v .numbers .etype .entries) (v .widths)) where
     pub walk-size : S ≡ dataSize (paper v)
     walk-size = sized ∙ data-is v (w .valid)
 
@@ -102,7 +90,7 @@ module _ (v : View) (o : ℤ) (c : ℕ) (h : Ranged v o c) (some : c ≡ 0 → �
     pub last-fits : Fits w64 (first + c)
     last-fits = record { fits = omega (arith, last-bound) }
 
-    pub walk-begun : (s : Spot) → s ≡ spotAt (numbersOf v) (whole o) → Walking v first (first + c) first s
+    pub walk-begun : (s : Spot) → s ≡ spotAt (v .numbers) (whole o) → Walking v first (first + c) first s
     walk-begun s at = walk-none v first (first + c) s (h .valid) last-bound (omega arith) (rw first-is at)
 
 -- ---- what the functions on places ask for, of a view lent as numbers and lists

@@ -1,21 +1,5 @@
 -- A write: the end that `writeEnd` finds, and the file that `written` makes, are the ones that document 01 describes, and no others are.
-use Prim.Native.Nat.{ℕ, _+_, _-_, _*_, _/_, _%_, _≤_, _<_}
-use mathlib.Core.Bool.{Bool, not}
-use mathlib.Core.List.{List}
-use mathlib.Core.Logic.{_⊎_, inl, inr, ⊎-elim}
-use mathlib.Core.Path.{_≡_, sym, _∙_}
-use native.Mathlib.Nat.{div-add-mod', mod-lt}
-use native.Mathlib.Omega.{arith}
-use borrow.Author.Tests.{eqb-true, eq-eqb, not-false, not-true}
-use lib.Dec.{eqb}
-use lib.ListN.{length}
-use lib.Seq.{ext-getD}
-use Rattle.laws.specs.Search.{first}
-use Rattle.laws.specs.Lists.{nth, store}
-use Rattle.laws.proofs.Booleans.{lt-or-le, not-both}
-use Rattle.laws.proofs.Searching.{first-keeps, first-breaks}
-use Rattle.laws.proofs.Sums.{greatest-above, greatest-least}
-use Rattle.laws.proofs.Stores.{length-store, store-at, store-other}
+use Rattle.laws.proofs.Prelude.{ℕ, _+_, _-_, _*_, _/_, _%_, _≤_, _<_, _≡_, sym, _∙_, Bool, not, List, _⊎_, inl, inr, ⊎-elim, arith, div-add-mod', mod-lt, length, eqb, ext-getD, eqb-true, eq-eqb, not-false, not-true, first, nth, store, lt-or-le, not-both, first-keeps, first-breaks, length-store, store-at, store-other, greatest-above, greatest-least}
 use Rattle.view.specs.Types.{PaperView}
 use Rattle.view.specs.Places.{Distinct, dataSize}
 use Rattle.move_read.specs.Moves.{fileByte, IsWriteEnd, writeEnd, newSize, Unmapped, IsWritten, written}

@@ -3,12 +3,13 @@
 ghost use lib.ListN.{length};
 ghost use Rattle.view.specs.Numbers.{viewWith};
 ghost use Rattle.move_read.specs.Parts.{Movable, ReadDone};
+use handle::Access;
+use handle::FileRecord;
 use view::Numbers;
-use view::Offset;
 use view::PerEntry;
 use view::PerInstance;
 
-// Reads `count` etypes at `o` into the buffer and answers how many lie in the file: it stops at the first that does not.
+// Reads the etypes of an access into the buffer and answers how many lie in the file: it stops at the first that does not.
 // It divides once, for the first offset, and then steps from instance to instance and from tile to tile.
 pub fn gather<'a>(
     v: Numbers,
@@ -16,20 +17,21 @@ pub fn gather<'a>(
     displacements: &'a PerEntry,
     origins: &'a PerInstance,
     file: &[u8],
-    size: u64,
-    o: Offset,
-    count: u64,
+    rec: FileRecord,
+    access: Access,
     buf: &mut [u8],
 ) -> u64
-    requires { ⌜ Movable (viewWith v (now widths) (now displacements) (now origins)) (length (now file)) size (o .0) count (length (now buf)) ⌝ }
-    ensures { λ r. ⌜ ReadDone (viewWith v (now (widths .entry)) (now (displacements .entry)) (now (origins .entry))) (now (file .entry)) size (o .0) count (now (buf .entry)) r (now (buf .exit)) ⌝ }
+    requires { ⌜ Movable (viewWith v (now widths) (now displacements) (now origins)) (length (now file)) (rec .size) (access .offset .0) (access .count) (length (now buf)) ⌝ }
+    ensures { λ r. ⌜ ReadDone (viewWith v (now (widths .entry)) (now (displacements .entry)) (now (origins .entry))) (now (file .entry)) (rec .size) (access .offset .0) (access .count) (now (buf .entry)) r (now (buf .exit)) ⌝ }
 {
+    let count = access.count;
     if count == 0 {
         return 0;
     }
-    let n = v.etype.entries;
-    let packed = move_etype::data_size(n, widths);
-    let reach = rule_entries::reach_of(n, widths, displacements);
+    let size = rec.size;
+    let o = access.offset;
+    let packed = v.etype.data_size(widths);
+    let reach = v.etype.reach(widths, displacements);
     let first = view::natural(o.0);
     let last = first + count;
     let mut spot = view_place::spot_of(v, o);
@@ -41,8 +43,8 @@ pub fn gather<'a>(
             return x - first;
         }
         let from = ((x - first) * packed) as usize;
-        move_etype::copy_out(n, widths, displacements, file, place, &mut buf[from..]);
-        spot = view_place::next_spot(spot, v.filetype.instances, v.filetype.extent);
+        move_etype::copy_out(v, widths, displacements, file, place, &mut buf[from..]);
+        spot = view_place::next_spot(spot, v.filetype);
         x += 1;
     }
     count

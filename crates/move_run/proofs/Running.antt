@@ -1,25 +1,27 @@
 -- Runs of bytes: of a known width, two after each other, of one byte; and a run that is being filled.
-use Prim.Native.Nat.{ℕ, _+_, _-_, _^_, _≤_, _<_}
-use mathlib.Core.Bool.{Bool, true, false, false≢true}
-use mathlib.Core.List.{List}
-use mathlib.Core.Logic.{_⊎_, inl, inr, ⊎-elim}
-use mathlib.Core.Path.{_≡_, refl, sym, ap, _∙_}
-use native.Mathlib.Nat.{add-zero}
-use native.Mathlib.Omega.{arith}
-use borrow.Author.Tests.{eqb-true, ne-eqb}
-use lib.Dec.{eqb}
-use lib.ListN.{length, getD, set, length-set}
-use mir.Syntax.{w64}
-use mir.Val.{Fits}
-use Rattle.laws.specs.Checks.{either}
-use Rattle.laws.specs.Lists.{nth, store}
-use Rattle.laws.proofs.Stores.{store-none, store-more}
-use Rattle.laws.proofs.Runs.{store-run}
+use Rattle.laws.proofs.Prelude.{ℕ, _+_, _-_, _^_, _≤_, _<_, _≡_, refl, sym, ap, _∙_, Bool, true, false, false≢true, List, _⊎_, inl, inr, ⊎-elim, arith, add-zero, length, getD, set, length-set, T, eqb, ltb, ltb→lt, w64, Fits, needs, eqb-true, ne-eqb, either, nth, store, store-none, store-more, store-run}
 use Rattle.view.specs.Limits.{widthAllowed}
 use Rattle.view.proofs.Accepted.{width-small}
-use Rattle.move_run.specs.Parts.{onward, byteFrom, always}
+use Rattle.move_run.specs.Parts.{onward, byteFrom, Runs, always}
 
--- ---- a run that is copied
+-- ---- a run that is copied byte by byte
+
+-- place k of a run lies in the target
+pub run-place : (there from here to width k : ℕ) → Runs there from here to width → T (ltb k width) → to + k < here
+run-place there from here to width k h t = omega (arith, h .target, ltb→lt k width t)
+
+-- its first byte, and its byte k after those before it
+pub run-begin : (source : List ℕ) (from to : ℕ) (l : List ℕ) → set l to (getD source from 0) ≡ store (onward to) (byteFrom source from) 1 l
+unfolding store onward byteFrom
+run-begin source from to l = simp add-zero
+
+pub run-next : (source : List ℕ) (from to k width : ℕ) (l₀ l : List ℕ) → l ≡ store (onward to) (byteFrom source from) k l₀ → k + 1 ≡ width → set l (to + k) (getD source (from + k) 0) ≡ store (onward to) (byteFrom source from) width l₀
+unfolding onward byteFrom
+run-next source from to k width l₀ l e w = rw (← w) (store-more (onward to) (byteFrom source from) k (to + k) (getD source (from + k) 0) l₀ l e refl refl)
+
+pub ruleset running = (needs, refl, run-place, run-begin, run-next)
+
+-- ---- runs by their width
 
 -- a run of a known width
 pub run-of : (place value : ℕ → ℕ) (width k : ℕ) (l₀ l : List ℕ) → width ≡ k → l ≡ store place value k l₀ → l ≡ store place value width l₀
@@ -44,8 +46,7 @@ pub run-first : (a w n : ℕ) → widthAllowed w ≡ true → a + w ≤ n → a 
 run-first a w n h l = omega (arith, width-small w h)
 
 pub run-one : (source : List ℕ) (from to width : ℕ) (l : List ℕ) → widthAllowed width ≡ true → (width ≡ 4 → ⊥) → (width ≡ 8 → ⊥) → (width ≡ 2 → ⊥) → set l to (getD source from 0) ≡ store (onward to) (byteFrom source from) width l
-unfolding store onward byteFrom
-run-one source from to width l h n4 n8 n2 = rw (width-one width h n4 n8 n2) (simp add-zero)
+run-one source from to width l h n4 n8 n2 = rw (width-one width h n4 n8 n2) (run-begin source from to l)
 
 -- ---- one value in a run of places
 

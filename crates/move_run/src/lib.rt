@@ -6,6 +6,7 @@ ghost use lib.ListN.{length};
 ghost use Rattle.laws.specs.Lists.{store};
 ghost use Rattle.view.specs.Limits.{widthAllowed};
 ghost use Rattle.move_run.specs.Parts.{onward, byteFrom, Runs, always};
+use view::BytePos;
 
 // Copies two bytes of `source` from `from` on to `target` from `to` on. All are read before any is stored, and the last first, so that the compiler makes one load and one store of them.
 fn copy_2(source: &[u8], from: usize, target: &mut [u8], to: usize)
@@ -59,12 +60,14 @@ pub fn copy_run(source: &[u8], from: usize, target: &mut [u8], to: usize, width:
 }
 
 // Puts `value` at each place of the file from `from` on, up to `to`.
-pub fn fill(file: &mut [u8], from: usize, to: usize, value: u8)
-    requires { ⌜ to ≤ length (now file) ⌝ }
-    ensures { λ r. ⌜ now (file .exit) ≡ store (onward from) (always value) (to - from) (now (file .entry)) ⌝ }
+pub fn fill(file: &mut [u8], from: BytePos, to: BytePos, value: u8)
+    requires { ⌜ to .0 ≤ length (now file) ⌝ }
+    ensures { λ r. ⌜ now (file .exit) ≡ store (onward (from .0)) (always value) (to .0 - from .0) (now (file .entry)) ⌝ }
 {
-    let mut at = from;
-    while at < to {
+    let end = to.0 as usize;
+    let begin = from.0 as usize;
+    let mut at = begin;
+    while at < end {
         file[at] = value;
         at += 1;
     }

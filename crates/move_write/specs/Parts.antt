@@ -1,12 +1,15 @@
 -- What the writing mover asks of its callers, and what it leaves. A reader need not believe these: the contracts of calls cite move_read/specs/Moves.antt.
-use Prim.Native.Nat.{ℕ, _*_, _≤_}
+use Prim.Native.Nat.{ℕ, _+_, _-_, _*_, _≤_, max}
 use mathlib.Core.List.{List}
 use mathlib.Core.Path.{_≡_}
 use lib.IntN.{ℤ}
+use Rattle.laws.specs.Lists.{store}
 use Rattle.view.specs.declared.View.{View}
 use Rattle.view.specs.Types.{paper, whole}
 use Rattle.view.specs.Places.{dataSize}
-use Rattle.move_read.specs.Moves.{writeEnd, newSize, written}
+use Rattle.handle.specs.declared.FileRecord.{FileRecord}
+use Rattle.handle.specs.Handles.{withSize}
+use Rattle.move_read.specs.Moves.{writeEnd}
 use Rattle.move_read.specs.Parts.{Ranged}
 
 -- c etypes at o of a buffer of `buffer` bytes may be stored in a file of `len` bytes: what checks 1, 12, 13 and 14 leave
@@ -15,13 +18,12 @@ pub record Storable (v : View) (len : ℕ) (o : ℤ) (c buffer : ℕ) : Type 0 w
   pub room : c * dataSize (paper v) ≤ buffer
   pub ends : writeEnd (paper v) (whole o) c ≤ len
 
--- and the file has this size, and the write this end
-pub record Writable (v : View) (len size : ℕ) (o : ℤ) (c end buffer : ℕ) : Type 0 where
-  pub storable : Storable v len o c buffer
-  pub short : size ≤ len
-  pub ending : end ≡ writeEnd (paper v) (whole o) c
+-- a write into a file of `len` bytes with this record ends at `end`
+pub record Growable (len : ℕ) (r : FileRecord) (end : ℕ) : Type 0 where
+  pub short : r .size ≤ len
+  pub ends : end ≤ len
 
--- what a write leaves of the file's bytes, and the new size
-pub record WriteDone (v : View) (before after : List ℕ) (old : ℕ) (o : ℤ) (c : ℕ) (buffer : List ℕ) (grown : ℕ) : Type 0 where
-  pub size : grown ≡ newSize (paper v) old (whole o) c
-  pub bytes : after ≡ written (paper v) old (whole o) c buffer before
+-- the record with the new size, and the file's bytes with the gap filled
+pub record Grown (r : FileRecord) (end : ℕ) (before after : List ℕ) (grown : FileRecord) : Type 0 where
+  pub is : grown ≡ withSize r (max (r .size) end)
+  pub bytes : after ≡ store (λ i. r .size + i) (λ i. 0) (max (r .size) end - r .size) before

@@ -8,16 +8,18 @@ ghost use Rattle.view.specs.Types.{paper, whole};
 ghost use Rattle.view.specs.Places.{dataSize};
 ghost use Rattle.view.specs.Numbers.{viewWith};
 ghost use Rattle.move_read.specs.Moves.{fileByte};
-ghost use Rattle.move_write.specs.Parts.{Storable, Writable, WriteDone};
+ghost use Rattle.move_write.specs.Parts.{Storable, Growable, Grown};
+use handle::Access;
+use handle::FileRecord;
+use view::BytePos;
 use view::Numbers;
-use view::Offset;
 use view::PerEntry;
 use view::PerInstance;
 
 // What the gap between the old size and the new one gets.
 const GAP_FILL: u8 = 0;
 
-// Stores `count` etypes from the buffer at `o`, each of the data bytes at its place.
+// Stores the etypes of an access from the buffer, each of the data bytes at its place.
 // It divides once, for the first offset, and then steps from instance to instance and from tile to tile.
 pub fn scatter<'a>(
     v: Numbers,
@@ -25,18 +27,18 @@ pub fn scatter<'a>(
     displacements: &'a PerEntry,
     origins: &'a PerInstance,
     file: &mut [u8],
-    o: Offset,
-    count: u64,
+    access: Access,
     buf: &[u8],
 )
-    requires { ⌜ Storable (viewWith v (now widths) (now displacements) (now origins)) (length (now file)) (o .0) count (length (now buf)) ⌝ }
-    ensures { λ r. ⌜ now (file .exit) ≡ store (fileByte (paper (viewWith v (now (widths .entry)) (now (displacements .entry)) (now (origins .entry)))) (whole (o .0))) (nth (now (buf .entry))) (count * dataSize (paper (viewWith v (now (widths .entry)) (now (displacements .entry)) (now (origins .entry))))) (now (file .entry)) ⌝ }
+    requires { ⌜ Storable (viewWith v (now widths) (now displacements) (now origins)) (length (now file)) (access .offset .0) (access .count) (length (now buf)) ⌝ }
+    ensures { λ r. ⌜ now (file .exit) ≡ store (fileByte (paper (viewWith v (now (widths .entry)) (now (displacements .entry)) (now (origins .entry)))) (whole (access .offset .0))) (nth (now (buf .entry))) (access .count * dataSize (paper (viewWith v (now (widths .entry)) (now (displacements .entry)) (now (origins .entry))))) (now (file .entry)) ⌝ }
 {
+    let count = access.count;
     if count == 0 {
         return;
     }
-    let n = v.etype.entries;
-    let packed = move_etype::data_size(n, widths);
+    let o = access.offset;
+    let packed = v.etype.data_size(widths);
     let first = view::natural(o.0);
     let last = first + count;
     let mut spot = view_place::spot_of(v, o);
@@ -44,30 +46,20 @@ pub fn scatter<'a>(
     while x < last {
         let place = view_place::begin_at(origins, spot);
         let from = ((x - first) * packed) as usize;
-        move_etype::copy_in(n, widths, displacements, &buf[from..], file, place);
-        spot = view_place::next_spot(spot, v.filetype.instances, v.filetype.extent);
+        move_etype::copy_in(v, widths, displacements, &buf[from..], file, place);
+        spot = view_place::next_spot(spot, v.filetype);
         x += 1;
     }
 }
 
-// Writes `count` etypes at `o` into a file of this size, where the write ends at `end`: the gap is filled first, whole, then the data are stored. Answers the new size.
-pub fn write<'a>(
-    v: Numbers,
-    widths: &'a PerEntry,
-    displacements: &'a PerEntry,
-    origins: &'a PerInstance,
-    file: &mut [u8],
-    size: u64,
-    o: Offset,
-    count: u64,
-    end: u64,
-    buf: &[u8],
-) -> u64
-    requires { ⌜ Writable (viewWith v (now widths) (now displacements) (now origins)) (length (now file)) size (o .0) count end (length (now buf)) ⌝ }
-    ensures { λ r. ⌜ WriteDone (viewWith v (now (widths .entry)) (now (displacements .entry)) (now (origins .entry))) (now (file .entry)) (now (file .exit)) size (o .0) count (now (buf .entry)) r ⌝ }
+// Fills the gap of a write that ends at `end`, where it ends past the file's size, and answers the file's record with the new size.
+pub fn grow(file: &mut [u8], mut rec: FileRecord, end: BytePos) -> FileRecord
+    requires { ⌜ Growable (length (now file)) rec (end .0) ⌝ }
+    ensures { λ r. ⌜ Grown rec (end .0) (now (file .entry)) (now (file .exit)) r ⌝ }
 {
-    let grown = laws::larger(size, end);
-    move_run::fill(file, size as usize, grown as usize, GAP_FILL);
-    scatter(v, widths, displacements, origins, file, o, count, buf);
-    grown
+    let size = rec.size;
+    let grown = laws::larger(size, end.0);
+    move_run::fill(file, BytePos(size), BytePos(grown), GAP_FILL);
+    rec.size = grown;
+    rec
 }

@@ -1,20 +1,9 @@
 -- What the loops of this crate test at one index, and that no sum of theirs wraps.
-use Prim.Native.Nat.{ℕ, _+_, _-_, _≤_, _<_}
-use mathlib.Core.Bool.{Bool, true, false, not}
-use mathlib.Core.List.{List}
-use mathlib.Core.Path.{_≡_, sym, _∙_}
-use native.Mathlib.Omega.{arith}
-use borrow.Author.Tests.{le-leb, lt-leb, not-true, not-false}
-use lib.Dec.{leb}
-use lib.ListN.{length, getD}
-use mir.Syntax.{w64}
-use mir.Val.{Fits}
-use Rattle.laws.specs.Lists.{nth}
-use Rattle.laws.proofs.Sums.{Highest, highest-end}
-use Rattle.laws.proofs.Searching.{Passed, passed-fails, passed-holds, all-intro}
+use Rattle.laws.proofs.Prelude.{ℕ, _+_, _-_, _≤_, _<_, _≡_, sym, _∙_, Bool, true, false, not, List, arith, length, getD, leb, w64, Fits, le-leb, lt-leb, not-true, not-false, nth, Passed, passed-fails, passed-holds, all-intro}
 use Rattle.view.specs.Rules.{ordered}
 use Rattle.rule_limits.specs.Parts.{entryFits}
-use Rattle.rule_entries.specs.Parts.{entryFitsAt, entryEnd, EntriesValid, reachOf, apartAt}
+use Rattle.view.specs.Etypes.{EntriesValid}
+use Rattle.rule_entries.specs.Parts.{entryFitsAt, apartAt}
 
 -- ---- one entry
 
@@ -50,15 +39,6 @@ ordered-fails ds i s l h = passed-fails (inOrder ds) i (length ds - 1) s l h
 pub ordered-holds : (ds : List ℕ) (i : ℕ) → Passed (inOrder ds) i (length ds - 1) → length ds - 1 ≤ i → true ≡ ordered (nth ds) (length ds)
 unfolding ordered
 ordered-holds ds i s l = passed-holds (inOrder ds) i (length ds - 1) s l
-
--- ---- the reach of the entries
-
-pub end-fits : (n : ℕ) (ws ds : List ℕ) (i : ℕ) → EntriesValid n ws ds → i < n → Fits w64 (getD ds i 0 + getD ws i 0)
-end-fits n ws ds i k l = record { fits = omega (arith, k .ends i l) }
-
-pub reach-is : (n : ℕ) (ws ds : List ℕ) (i m : ℕ) → Highest (entryEnd ws ds) i n m → n ≤ i → m ≡ reachOf ws ds n
-unfolding reachOf
-reach-is n ws ds i m h l = highest-end (entryEnd ws ds) i n m h l
 
 -- ---- entries apart
 

@@ -1,31 +1,16 @@
 -- What the functions of this crate test, rule by rule, on lists. A reader need not believe these: `rule_view::is_accepted` and `rule_set::accept` have the paper's definitions in their contracts, and the proofs show that these make them up.
-use Prim.Native.Nat.{ℕ, _+_, _≤_, _<_}
+use Prim.Native.Nat.{ℕ, _+_}
 use mathlib.Core.Bool.{Bool}
 use mathlib.Core.List.{List}
 use lib.Dec.{leb}
-use Rattle.laws.specs.Search.{greatest}
 use Rattle.laws.specs.Lists.{nth}
-use Rattle.view.specs.Limits.{maxEtypeEntries, maxEntryEnd}
+use Rattle.view.specs.Etypes.{entryEnd}
 use Rattle.rule_limits.specs.Parts.{entryFits}
 
 -- ---- the etype, with widths ws and displacements ds
 
 unfoldable pub entryFitsAt : List ℕ → List ℕ → ℕ → Bool
 entryFitsAt ws ds i = entryFits (nth ws i) (nth ds i)
-
--- where entry i ends
-abbrev pub entryEnd : List ℕ → List ℕ → ℕ → ℕ
-entryEnd ws ds i = nth ds i + nth ws i
-
--- n entries, each of which ends within the limit
-pub record EntriesValid (n : ℕ) (ws ds : List ℕ) : Type 0 where
-  pub some : 0 < n
-  pub few : n ≤ maxEtypeEntries
-  pub ends : (i : ℕ) → i < n → entryEnd ws ds i ≤ maxEntryEnd
-
--- how far the entries reach
-unfoldable pub reachOf : List ℕ → List ℕ → ℕ → ℕ
-reachOf ws ds n = greatest (entryEnd ws ds) n
 
 -- ---- overlap
 

@@ -6,7 +6,8 @@ ghost use Rattle.laws.specs.Lists.{nth};
 ghost use Rattle.laws.specs.Search.{all};
 ghost use Rattle.view.specs.Limits.{maxEtypeEntries};
 ghost use Rattle.view.specs.Rules.{ordered};
-ghost use Rattle.rule_entries.specs.Parts.{entryFitsAt, EntriesValid, reachOf, apartAt};
+ghost use Rattle.view.specs.Etypes.{EntriesValid};
+ghost use Rattle.rule_entries.specs.Parts.{entryFitsAt, apartAt};
 use view::PerEntry;
 
 // Whether each entry of an etype is allowed. For our own crates.
@@ -42,22 +43,6 @@ pub fn never_decrease(ds: &[u64]) -> bool
         i += 1;
     }
     true
-}
-
-// How far the etype's entries reach. For our own crates.
-pub fn reach_of<'a>(entries: u64, widths: &'a PerEntry, displacements: &'a PerEntry) -> u64
-    requires { ⌜ EntriesValid entries (now widths) (now displacements) ⌝ }
-    ensures { λ r. ⌜ r ≡ reachOf (now (widths .entry)) (now (displacements .entry)) entries ⌝ }
-{
-    let n = entries as usize;
-    let mut reach = 0;
-    let mut i = 0;
-    while i < n {
-        let end = displacements[i] + widths[i];
-        reach = laws::larger(reach, end);
-        i += 1;
-    }
-    reach
 }
 
 // Whether each entry of the etype ends at or before the next one begins. For our own crates.

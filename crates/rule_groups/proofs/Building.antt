@@ -1,28 +1,9 @@
 -- How the record of a view is built of lent lists, and how its groups are tested.
-use Prim.Native.Nat.{ℕ, _+_, _-_, _*_, _/_, _%_, _^_, _≤_, _<_}
-use mathlib.Core.Bool.{Bool, true, false, not}
-use mathlib.Core.List.{List}
-use mathlib.Core.Logic.{⊎-elim}
-use mathlib.Core.Path.{_≡_, sym, ap, _∙_}
-use native.Mathlib.Nat.{mod-lt, div-mul-le-self, mul-le-mul-right}
-use native.Mathlib.Omega.{arith}
-use borrow.Author.Needs.{sfits-of}
-use borrow.Author.Tests.{eq-eqb, ne-eqb}
-use lib.Dec.{eqb}
-use lib.IntN.{ℤ, pos}
-use lib.Signed.{mag}
-use lib.ListN.{length, getD, replicate}
-use mir.Syntax.{w64}
-use mir.Val.{Fits, toZ, ofZ, hbits}
-use mir.Facts.{toZ-ofZ}
-use Rattle.laws.specs.Lists.{nth, front}
-use Rattle.laws.proofs.Booleans.{also-yes, also-no, unflag-true, unflag-false, eq-or-ne}
-use Rattle.laws.proofs.Searching.{Passed, passed-fails, passed-holds}
-use Rattle.laws.proofs.Quotients.{times-more}
-use Rattle.view.specs.declared.Etype.{Etype}
-use Rattle.view.specs.declared.Filetype.{Filetype}
+use Rattle.laws.proofs.Prelude.{ℕ, _+_, _-_, _*_, _/_, _%_, _^_, _≤_, _<_, _≡_, sym, ap, _∙_, Bool, true, false, not, List, ⊎-elim, arith, mod-lt, div-mul-le-self, mul-le-mul-right, length, getD, replicate, ℤ, pos, eqb, mag, w64, Fits, toZ, ofZ, hbits, toZ-ofZ, sfits-of, eq-eqb, ne-eqb, nth, front, also-yes, also-no, unflag-true, unflag-false, eq-or-ne, Passed, passed-more, passed-fails, passed-holds, times-more}
+use Rattle.view.specs.declared.View.{View}
+use Rattle.view.specs.declared.Numbers.{Numbers}
 use Rattle.view.specs.Types.{whole}
-use Rattle.rule_groups.specs.Parts.{wholeAt, etypeRecord, entryShifted, entryMatches, groupsMatch, groupOrigin, filetypeRecord}
+use Rattle.rule_groups.specs.Parts.{wholeAt, entryShifted, entryMatches, groupsMatch, groupOrigin, viewRecord}
 
 -- ---- copies
 
@@ -43,9 +24,9 @@ shift-is d ed s l =
 
 module _ (ws ds : List ℕ) (n : ℕ) (fw fd : List ℕ) where
   module _ (i : ℕ) (t : Bool) (e : t ≡ entryShifted (getD fw i 0) (getD fd i 0) (getD ws (i % n) 0) (getD ds (i % n) 0) (getD fd (i / n * n) 0) (getD ds 0 0)) where
-    pub built-yes : not t ≡ false → entryMatches ws ds n fw fd i ≡ true
+    pub groups-more : not t ≡ false → Passed (entryMatches ws ds n fw fd) i (length fw) → i < length fw → Passed (entryMatches ws ds n fw fd) (i + 1) (length fw)
     unfolding entryMatches
-    built-yes m = unflag-true t _ e m
+    groups-more m s l = passed-more _ i (length fw) s l (unflag-true t _ e m)
 
     pub built-no : not t ≡ true → entryMatches ws ds n fw fd i ≡ false
     unfolding entryMatches
@@ -75,12 +56,6 @@ begin-fits i n m l h = record { fits = omega (arith, div-mul-le-self i n) }
 pub begin-pairs : (i n : ℕ) (a b : List ℕ) → length a ≡ length b → i < length b → i / n * n < length a
 begin-pairs i n a b e l = omega (arith, div-mul-le-self i n)
 
--- ---- the etype's record
-
-pub etype-made : (ws : List ℕ) (ds : List ℤ) (x : ℕ) (a b : List ℕ) → a ≡ front (nth ws) (length ws) (replicate 8 0) → b ≡ front (wholeAt ds) (length ds) (replicate 8 0) → _≡_ {A = Etype} (record { entries = length ws; widths = a; displacements = b; extent = x }) (etypeRecord ws ds x)
-unfolding etypeRecord
-etype-made ws ds x a b p q = λ i. record { entries = length ws; widths = p i; displacements = q i; extent = x }
-
 -- ---- origins
 
 module _ (g n m : ℕ) (l : g < m / n) where
@@ -94,9 +69,15 @@ pub origin-is : (fd : List ℕ) (n first g p : ℕ) → p ≡ getD fd (g * n) 0 
 unfolding groupOrigin
 origin-is fd n first g p e = e
 
-pub filetype-made : (fd : List ℕ) (n first x k g : ℕ) (ps : List ℕ) → ps ≡ front (groupOrigin fd n first) g (replicate 64 0) → g ≤ k → k ≤ g → k ≡ length fd / n → _≡_ {A = Filetype} (record { instances = k; origins = ps; extent = x }) (filetypeRecord fd n first x)
-unfolding filetypeRecord
-filetype-made fd n first x k g ps p a b e =
+pub origins-end : (fd : List ℕ) (n first g : ℕ) (out₀ out : List ℕ) → out ≡ front (groupOrigin fd n first) g out₀ → g ≤ length fd / n → length fd / n ≤ g → out ≡ front (groupOrigin fd n first) (length fd / n) out₀
+origins-end fd n first g out₀ out p a b =
     let q : g ≡ length fd / n = omega arith in
-    let r : ps ≡ front (groupOrigin fd n first) (length fd / n) (replicate 64 0) = p ∙ ap (λ (z : ℕ). front (groupOrigin fd n first) z (replicate 64 0)) q in
-    λ i. record { instances = e i; origins = r i; extent = x }
+    p ∙ ap (λ (z : ℕ). front (groupOrigin fd n first) z out₀) q
+
+-- ---- the record
+
+pub view-made : (v : Numbers) (ew : List ℕ) (ed : List ℤ) (fd ws ds ps : List ℕ) → ws ≡ front (nth ew) (length ew) (replicate 8 0) → ds ≡ front (wholeAt ed) (length ed) (replicate 8 0) → ps ≡ front (groupOrigin fd (length ew) (getD ds 0 0)) (length fd / length ew) (replicate 64 0) → _≡_ {A = View} (record { numbers = v; widths = ws; displacements = ds; origins = ps }) (viewRecord v ew ed fd)
+unfolding viewRecord
+view-made v ew ed fd ws ds ps p q r =
+    let s = r ∙ ap (λ (l : List ℕ). front (groupOrigin fd (length ew) (nth l 0)) (length fd / length ew) (replicate 64 0)) q in
+    λ i. record { numbers = v; widths = p i; displacements = q i; origins = s i }

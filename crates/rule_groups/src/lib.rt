@@ -4,10 +4,11 @@ ghost use mathlib.Core.Path.{_≡_};
 ghost use Prim.Native.Nat.{_≤_, _<_, _/_};
 ghost use lib.ListN.{length};
 ghost use Rattle.laws.specs.Lists.{front, nth};
-ghost use Rattle.view.specs.Limits.{maxEtypeEntries, maxInstances};
-ghost use Rattle.rule_groups.specs.Parts.{wholeAt, etypeRecord, entryShifted, groupsMatch, filetypeRecord};
+ghost use Rattle.view.specs.Limits.{maxEtypeEntries};
+ghost use Rattle.rule_groups.specs.Parts.{wholeAt, entryShifted, groupsMatch, groupOrigin, Recordable, viewRecord};
 use view::Etype;
-use view::Filetype;
+use view::Numbers;
+use view::PerEntry;
 use view::View;
 
 // Widths, put at the front of `out`.
@@ -35,23 +36,6 @@ pub fn copy_displacements(ds: &[i64], out: &mut [u64])
     }
 }
 
-// The etype's record.
-pub fn etype_of(ws: &[u64], ds: &[i64], extent: u64) -> Etype
-    requires { ⌜ (length (now ws) ≤ maxEtypeEntries) × (length (now ds) ≡ length (now ws)) ⌝ }
-    ensures { λ r. ⌜ r ≡ etypeRecord (now (ws .entry)) (now (ds .entry)) extent ⌝ }
-{
-    let mut widths = [0u64; View::MAX_ETYPE_ENTRIES as usize];
-    copy_widths(ws, &mut widths);
-    let mut displacements = [0u64; View::MAX_ETYPE_ENTRIES as usize];
-    copy_displacements(ds, &mut displacements);
-    Etype {
-        entries: ws.len() as u64,
-        widths: widths,
-        displacements: displacements,
-        extent: extent,
-    }
-}
-
 // Whether an entry of width `w` at `d` is the etype's of width `ew` at `ed`, shifted from `first` to `begin`.
 fn entry_matches(w: u64, d: u64, ew: u64, ed: u64, begin: u64, first: u64) -> bool
     ensures { λ r. ⌜ r ≡ entryShifted w d ew ed begin first ⌝ }
@@ -69,14 +53,18 @@ fn entry_matches(w: u64, d: u64, ew: u64, ed: u64, begin: u64, first: u64) -> bo
     d - ed == shift
 }
 
-// Whether a filetype's entries fall into whole groups, each the etype shifted by one number.
-pub fn groups_match(e: Etype, fw: &[u64], fd: &[u64]) -> bool
+// Whether a filetype's entries fall into whole groups, each the etype of these widths and displacements, shifted by one number.
+pub fn groups_match<'a>(
+    e: Etype,
+    widths: &'a PerEntry,
+    displacements: &'a PerEntry,
+    fw: &[u64],
+    fd: &[u64],
+) -> bool
     requires { ⌜ (0 < e .entries) × (e .entries ≤ maxEtypeEntries) × (length (now fd) ≡ length (now fw)) ⌝ }
-    ensures { λ r. ⌜ r ≡ groupsMatch (e .widths) (e .displacements) (e .entries) (now (fw .entry)) (now (fd .entry)) ⌝ }
+    ensures { λ r. ⌜ r ≡ groupsMatch (now (widths .entry)) (now (displacements .entry)) (e .entries) (now (fw .entry)) (now (fd .entry)) ⌝ }
 {
     let n = e.entries as usize;
-    let widths = e.widths;
-    let displacements = e.displacements;
     if fw.len() % n != 0 {
         return false;
     }
@@ -100,26 +88,37 @@ pub fn groups_match(e: Etype, fw: &[u64], fd: &[u64]) -> bool
     true
 }
 
-// The filetype's record: the origin of each group.
-pub fn filetype_of(e: Etype, fd: &[u64], extent: u64) -> Filetype
-    requires { ⌜ (0 < e .entries) × (length (now fd) / e .entries ≤ maxInstances) ⌝ }
-    ensures { λ r. ⌜ r ≡ filetypeRecord (now (fd .entry)) (e .entries) (nth (e .displacements) 0) extent ⌝ }
+// The origin of each group of `n` entries, put at the front of `out`, where the etype begins at `first`.
+fn copy_origins(fd: &[u64], n: usize, first: u64, out: &mut [u64])
+    requires { ⌜ (0 < n) × (length (now fd) / n ≤ length (now out)) ⌝ }
+    ensures { λ r. ⌜ now (out .exit) ≡ front (groupOrigin (now (fd .entry)) n first) (length (now (fd .entry)) / n) (now (out .entry)) ⌝ }
 {
-    let n = e.entries as usize;
-    let displacements = e.displacements;
-    let first = displacements[0];
     let k = fd.len() / n;
-    let mut origins = [0u64; View::MAX_INSTANCES as usize];
     let mut g = 0;
     while g < k {
         let begin = g * n;
         let p = laws::less(fd[begin], first);
-        origins[g] = p;
+        out[g] = p;
         g += 1;
     }
-    Filetype {
-        instances: k as u64,
+}
+
+// The record of a view of these numbers: the etype's lists `ew` and `ed`, and the origins of the filetype's displacements `fd`.
+pub fn view_of(v: Numbers, ew: &[u64], ed: &[i64], fd: &[u64]) -> View
+    requires { ⌜ Recordable (now ew) (now ed) (now fd) ⌝ }
+    ensures { λ r. ⌜ r ≡ viewRecord v (now (ew .entry)) (now (ed .entry)) (now (fd .entry)) ⌝ }
+{
+    let mut widths = [0u64; View::MAX_ETYPE_ENTRIES as usize];
+    copy_widths(ew, &mut widths);
+    let mut displacements = [0u64; View::MAX_ETYPE_ENTRIES as usize];
+    copy_displacements(ed, &mut displacements);
+    let first = displacements[0];
+    let mut origins = [0u64; View::MAX_INSTANCES as usize];
+    copy_origins(fd, ew.len(), first, &mut origins);
+    View {
+        numbers: v,
+        widths: widths,
+        displacements: displacements,
         origins: origins,
-        extent: extent,
     }
 }

@@ -1,15 +1,5 @@
 -- Holes, as the loop passes them: the first, those between instances, the last.
-use Prim.Native.Nat.{ℕ, zero, suc, _+_, _-_, _%_, _≤_, _<_}
-use mathlib.Core.Bool.{Bool, true, false}
-use mathlib.Core.List.{List}
-use mathlib.Core.Path.{_≡_, sym, ap, _∙_}
-use native.Mathlib.Omega.{arith}
-use borrow.Author.Tests.{lt-ltb, le-ltb, eq-eqb, ne-eqb}
-use lib.Dec.{eqb}
-use lib.ListN.{getD}
-use Rattle.laws.specs.Lists.{nth}
-use Rattle.laws.specs.Search.{all}
-use Rattle.laws.proofs.Searching.{Passed, passed-none, passed-more, passed-fails, passed-holds}
+use Rattle.laws.proofs.Prelude.{ℕ, zero, suc, _+_, _-_, _%_, _≤_, _<_, _≡_, sym, ap, _∙_, Bool, true, false, List, arith, getD, eqb, lt-ltb, le-ltb, eq-eqb, ne-eqb, all, nth, Passed, passed-none, passed-more, passed-fails, passed-holds}
 use Rattle.view.specs.Rules.{hole, holesFit}
 use Rattle.rule_instances.specs.Parts.{holeFits}
 

@@ -1,14 +1,5 @@
 -- What the loops over the origins test at one instance, and that no sum of theirs wraps.
-use Prim.Native.Nat.{ℕ, _+_, _-_, _≤_, _<_}
-use mathlib.Core.Bool.{true, false}
-use mathlib.Core.List.{List}
-use mathlib.Core.Path.{_≡_}
-use native.Mathlib.Omega.{arith}
-use borrow.Author.Tests.{le-leb, lt-leb}
-use lib.ListN.{getD}
-use mir.Syntax.{w64}
-use mir.Val.{Fits}
-use Rattle.laws.specs.Lists.{nth}
+use Rattle.laws.proofs.Prelude.{ℕ, _+_, _-_, _≤_, _<_, _≡_, true, false, List, arith, getD, w64, Fits, le-leb, lt-leb, nth}
 use Rattle.rule_instances.specs.Parts.{OriginsValid, reachAt, stepAt}
 
 -- ---- origins

@@ -1,22 +1,9 @@
 -- What the functions of this crate test of one number, signed or not.
-use Prim.Native.Nat.{ℕ, _+_, _≤_, _<_}
-use mathlib.Core.Bool.{Bool, true, false, true≢false}
-use mathlib.Core.Path.{_≡_, refl, sym, ap, _∙_}
-use native.Mathlib.Omega.{arith}
-use borrow.Author.Tests.{ltb-true, le-leb, lt-leb}
-use lib.Dec.{leb}
-use lib.IntN.{ℤ, pos, negsuc}
-use lib.Signed.{ltZ}
-use mir.Syntax.{w64}
-use mir.Val.{Fits, SFits, toZ, ofZ}
-use mir.Facts.{toZ-ofZ}
-use Rattle.laws.specs.Checks.{within}
-use Rattle.laws.proofs.Booleans.{also-yes, also-no, also-false, within-low}
-use Rattle.view.specs.Limits.{widthAllowed, entryDisplacementAllowed, extentAllowed, displacementAllowed, pointerAllowed}
+use Rattle.laws.proofs.Prelude.{ℕ, _+_, _≤_, _<_, _≡_, refl, sym, ap, _∙_, Bool, true, false, true≢false, arith, ℤ, pos, negsuc, leb, ltZ, w64, Fits, SFits, toZ, ofZ, toZ-ofZ, ltb-true, le-leb, lt-leb, within, also-yes, also-false, within-low}
+use Rattle.view.specs.Limits.{widthAllowed, entryDisplacementAllowed, extentAllowed, displacementAllowed}
 use Rattle.view.specs.Types.{whole}
-use Rattle.view.specs.Rules.{modeAllowed}
 use Rattle.view.proofs.Accepted.{width-small}
-use Rattle.rule_limits.specs.Parts.{entryFits, signedEntryFits, modeAndPointerAllowed}
+use Rattle.rule_limits.specs.Parts.{entryFits, signedEntryFits}
 
 -- ---- one entry
 
@@ -84,18 +71,3 @@ module _ (z : ℤ) (f : SFits w64 z) where
 
     pub extent-is : 1 ≤ n → leb n 1048576 ≡ extentAllowed z
     extent-is l = high-extent z n number l
-
--- ---- a handle's numbers
-
-module _ (mode pointer : ℕ) where
-  pub pointer-high : 4294967296 < pointer → false ≡ modeAndPointerAllowed mode pointer
-  unfolding modeAndPointerAllowed pointerAllowed
-  pointer-high l = also-no _ _ (lt-leb pointer 4294967296 l)
-
-  pub mode-low : mode < 1 → false ≡ modeAndPointerAllowed mode pointer
-  unfolding modeAndPointerAllowed modeAllowed
-  mode-low l = sym (also-false _ _ (within-low 1 3 mode l))
-
-  pub mode-high : pointer ≤ 4294967296 → 1 ≤ mode → leb mode 3 ≡ modeAndPointerAllowed mode pointer
-  unfolding modeAndPointerAllowed modeAllowed pointerAllowed within
-  mode-high p a = also-yes _ _ _ (le-leb pointer 4294967296 p) (also-yes _ _ _ (le-leb 1 mode a) refl)

@@ -4,8 +4,7 @@ use mathlib.Core.Bool.{Bool}
 use lib.Dec.{leb, eqb}
 use lib.IntN.{ℤ}
 use Rattle.laws.specs.Checks.{also}
-use Rattle.view.specs.Limits.{maxEntryEnd, widthAllowed, etypeEntriesAllowed, filetypeEntriesAllowed, entryDisplacementAllowed, pointerAllowed}
-use Rattle.view.specs.Rules.{modeAllowed}
+use Rattle.view.specs.Limits.{maxEntryEnd, widthAllowed, etypeEntriesAllowed, filetypeEntriesAllowed, entryDisplacementAllowed}
 
 -- an entry of width w at d
 unfoldable pub entryFits : ℕ → ℕ → Bool
@@ -18,7 +17,3 @@ signedEntryFits w d = also (widthAllowed w) (entryDisplacementAllowed w d)
 -- each type's two lists have one length, and these counts are allowed
 unfoldable pub countsAllowed : ℕ → ℕ → ℕ → ℕ → Bool
 countsAllowed ew ed fw fd = also (eqb ew ed) (also (eqb fw fd) (also (etypeEntriesAllowed ew) (filetypeEntriesAllowed ew fw)))
-
--- a pointer and a mode within their limits
-unfoldable pub modeAndPointerAllowed : ℕ → ℕ → Bool
-modeAndPointerAllowed mode pointer = also (pointerAllowed pointer) (modeAllowed mode)

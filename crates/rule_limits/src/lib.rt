@@ -1,8 +1,7 @@
-// Document 01's table of limits and its modes, tested on single numbers: no list is read. These functions are pub for our own crates.
+// Document 01's limits of a view, tested on single numbers: no list is read. These functions are pub for our own crates.
 ghost use mathlib.Core.Path.{_≡_};
-ghost use Rattle.view.specs.Limits.{widthAllowed, extentAllowed, displacementAllowed, fileAllowed};
-ghost use Rattle.view.specs.Rules.{allowsReading, allowsWriting};
-ghost use Rattle.rule_limits.specs.Parts.{entryFits, signedEntryFits, countsAllowed, modeAndPointerAllowed};
+ghost use Rattle.view.specs.Limits.{widthAllowed, extentAllowed, displacementAllowed};
+ghost use Rattle.rule_limits.specs.Parts.{entryFits, signedEntryFits, countsAllowed};
 use view::View;
 
 // Width: 1, 2, 4 or 8.
@@ -90,47 +89,4 @@ pub fn displacement_allowed(d: i64) -> bool
         return false;
     }
     view::natural(d) <= View::MAX_DISPLACEMENT
-}
-
-// Whether a file's length is in range, and its size at most the length.
-pub fn file_allowed(len: u64, size: u64) -> bool
-    ensures { λ r. ⌜ r ≡ fileAllowed len size ⌝ }
-{
-    if View::MAX_FILE_SIZE < len {
-        return false;
-    }
-    size <= len
-}
-
-// Mode 1 or 3.
-pub fn reads(mode: u64) -> bool
-    ensures { λ r. ⌜ r ≡ allowsReading mode ⌝ }
-{
-    if mode == View::MODE_READING {
-        return true;
-    }
-    mode == View::MODE_BOTH
-}
-
-// Mode 2 or 3.
-pub fn writes(mode: u64) -> bool
-    ensures { λ r. ⌜ r ≡ allowsWriting mode ⌝ }
-{
-    if mode == View::MODE_WRITING {
-        return true;
-    }
-    mode == View::MODE_BOTH
-}
-
-// Whether a handle's mode and pointer are within their limits.
-pub fn mode_and_pointer_allowed(mode: u64, pointer: u64) -> bool
-    ensures { λ r. ⌜ r ≡ modeAndPointerAllowed mode pointer ⌝ }
-{
-    if View::OFFSET_COUNT < pointer {
-        return false;
-    }
-    if mode < View::MODE_READING {
-        return false;
-    }
-    mode <= View::MODE_BOTH
 }

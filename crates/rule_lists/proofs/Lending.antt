@@ -1,20 +1,5 @@
 -- How the loops of this crate go on, and what the flags of checks 3 to 6 say of the lent lists.
-use Prim.Native.Nat.{ℕ, _^_, _≤_, _<_}
-use mathlib.Core.Bool.{Bool, true, false, not}
-use mathlib.Core.List.{List}
-use mathlib.Core.Path.{_≡_, sym, ap, _∙_}
-use borrow.Author.Needs.{sfits-of}
-use borrow.Author.Tests.{eqb-true, eq-eqb, ne-eqb}
-use lib.IntN.{ℤ, pos}
-use lib.ListN.{length, getD}
-use lib.Signed.{mag}
-use mir.Syntax.{w64}
-use mir.Val.{SFits, toZ, ofZ, hbits}
-use mir.Facts.{toZ-ofZ}
-use Rattle.laws.specs.Checks.{also}
-use Rattle.laws.specs.Search.{all}
-use Rattle.laws.proofs.Booleans.{also-inv, also-yes, also-no, unflag-true, unflag-false}
-use Rattle.laws.proofs.Searching.{Passed, passed-fails, passed-holds}
+use Rattle.laws.proofs.Prelude.{ℕ, _^_, _≤_, _<_, _≡_, sym, ap, _∙_, Bool, true, false, not, List, length, getD, ℤ, pos, mag, w64, SFits, toZ, ofZ, hbits, toZ-ofZ, sfits-of, eqb-true, eq-eqb, ne-eqb, also, all, also-inv, also-yes, also-no, unflag-true, unflag-false, Passed, passed-fails, passed-holds}
 use Rattle.view.specs.Limits.{extentAllowed, displacementAllowed}
 use Rattle.view.specs.Types.{entries, widthAt}
 use Rattle.view.specs.Rules.{nativeName, isNative, entryAllowed, entriesAllowed}

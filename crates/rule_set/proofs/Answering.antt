@@ -1,21 +1,6 @@
 -- The answers of `accept`, from what its calls ensure.
-use Prim.Native.Nat.{ℕ, zero, suc, _/_, _≤_, _<_}
-use mathlib.Core.List.{List}
-use mathlib.Core.Path.{_≡_, sym, ap, _∙_, subst}
-use native.Mathlib.Omega.{arith}
-use lib.IntN.{ℤ}
-use lib.ListN.{length, take, replicate, getD-replicate, length-replicate}
-use lib.Seq.{length-take-le}
-use mir.Syntax.{w64}
-use mir.Val.{SFits, toZ, ofZ}
-use mir.Facts.{toZ-ofZ}
-use Rattle.laws.specs.Checks.{granted}
-use Rattle.laws.specs.Lists.{nth, front}
-use Rattle.laws.proofs.Booleans.{granted-yes, granted-no}
-use Rattle.laws.proofs.Stores.{length-store}
+use Rattle.laws.proofs.Prelude.{ℕ, _/_, zero, suc, _≤_, _<_, _≡_, refl, sym, ap, _∙_, subst, List, ⊎-elim, arith, length, take, replicate, getD-replicate, length-replicate, ℤ, length-take-le, w64, SFits, toZ, ofZ, toZ-ofZ, granted, nth, front, granted-yes, granted-no, eq-or-ne, length-store}
 use Rattle.view.specs.declared.View.{View}
-use Rattle.view.specs.declared.Etype.{Etype}
-use Rattle.view.specs.declared.Filetype.{Filetype}
 use Rattle.view.specs.Types.{PaperView, paper, entries, widthAt, extentOf, whole, defaultView}
 use Rattle.view.specs.Rules.{setRefusal, recordOf, instances, origin}
 use Rattle.view.proofs.Holding.{held-past, record-same}
@@ -23,10 +8,10 @@ use Rattle.rule_set.specs.declared.Accepted.{Accepted}
 use Rattle.rule_lists.specs.Lists.{typeOfLists, viewOfTypes}
 use Rattle.rule_lists.specs.Parts.{limitsRefusal}
 use Rattle.rule_set.specs.Answers.{acceptAnswer, UnusedZero, AcceptedAs}
-use Rattle.rule_groups.specs.Parts.{wholeAt, etypeRecord, filetypeRecord}
-use Rattle.rule_set.specs.Parts.{rulesRefusal, shapesRefusal, ShapesReady}
-use Rattle.rule_set.proofs.Chain.{Limited, limited, limits-refused, limits-granted, set-accepted}
-use Rattle.rule_set.proofs.Accepting.{naturalsOf, etype-hold, filetype-hold, shapes-same, ready, etype-few, pairs-few}
+use Rattle.rule_groups.specs.Parts.{wholeAt, Recordable, viewRecord}
+use Rattle.rule_set.specs.Parts.{Limited, shapesRefusal, ShapesReady, RecordAccepted, ListsAccepted}
+use Rattle.rule_set.proofs.Chain.{limited, limits-refused, limits-granted, set-accepted}
+use Rattle.rule_set.proofs.Accepting.{naturalsOf, record-hold, recordable, shapes-same, ready, etype-some, pairs-few}
 
 -- ---- unused places
 
@@ -38,7 +23,7 @@ default-unused = record {
   origins = λ i a b. getD-replicate 64 i 0 0 b;
 }
   where
-    later : (i : ℕ) → 1 ≤ i → i < 8 → nth (defaultView .etype .widths) i ≡ 0
+    later : (i : ℕ) → 1 ≤ i → i < 8 → nth (defaultView .widths) i ≡ 0
     later zero a b = absurd (omega arith)
     later (suc i) a b = getD-replicate 7 i 0 0 (omega arith)
 
@@ -52,7 +37,7 @@ hold-unused v = record {
 
 -- ---- a refusal, and an accepted view
 
-pub refused-as : (mode : ℕ) (r : List ℕ) (v : PaperView) (k : ℕ) (a : Accepted) → k ≡ setRefusal mode r v → (k ≡ 0 → ⊥) → a .refusal ≡ k → a .view ≡ defaultView → AcceptedAs mode r v a
+refused-as : (mode : ℕ) (r : List ℕ) (v : PaperView) (k : ℕ) (a : Accepted) → k ≡ setRefusal mode r v → (k ≡ 0 → ⊥) → a .refusal ≡ k → a .view ≡ defaultView → AcceptedAs mode r v a
 unfolding acceptAnswer
 refused-as mode r v k a e h p q =
     let n : a .refusal ≡ setRefusal mode r v = p ∙ e in
@@ -63,34 +48,83 @@ refused-as mode r v k a e h p q =
       unused = subst UnusedZero (sym q) default-unused;
     }
 
-pub accepted-as : (mode : ℕ) (r : List ℕ) (v : PaperView) (w : View) → 0 ≡ setRefusal mode r v → w ≡ recordOf v → AcceptedAs mode r v (record { refusal = 0; view = w })
+accepted-as : (mode : ℕ) (r : List ℕ) (v : PaperView) (a : Accepted) → 0 ≡ setRefusal mode r v → a .refusal ≡ 0 → a .view ≡ recordOf v → AcceptedAs mode r v a
 unfolding acceptAnswer
-accepted-as mode r v w e q =
-    let p : w ≡ granted (setRefusal mode r v) (recordOf v) defaultView = q ∙ sym (granted-yes _ _ _ (sym e)) in
+accepted-as mode r v a e n q =
+    let p : a .view ≡ granted (setRefusal mode r v) (recordOf v) defaultView = q ∙ sym (granted-yes _ _ _ (sym e)) in
     record {
-      answer = λ i. record { refusal = e i; view = p i };
+      answer = λ i. record { refusal = (n ∙ e) i; view = p i };
       same = λ z. ap paper q ∙ record-same mode v (set-accepted mode r v (sym e));
       unused = subst UnusedZero (sym q) (hold-unused v);
     }
 
-start-held : (d : ℤ) (ew : List ℕ) (ed : List ℤ) (ex : ℤ) (fw : List ℕ) (fd : List ℤ) (fx : ℤ) → SFits w64 d → whole (toZ w64 (ofZ w64 d)) ≡ recordOf (viewOfTypes d (typeOfLists ew ed ex) (typeOfLists fw fd fx)) .displacement
-unfolding recordOf
-start-held d ew ed ex fw fd fx sd = ap whole (toZ-ofZ sd)
+shaped-accepted : (mode : ℕ) (r : List ℕ) (v : PaperView) (a : Accepted) → a .refusal ≡ setRefusal mode r v → a .view ≡ granted (a .refusal) (recordOf v) defaultView → AcceptedAs mode r v a
+shaped-accepted mode r v a e q =
+    ⊎-elim (λ z. accepted-as mode r v a (sym z ∙ e) z (q ∙ granted-yes (a .refusal) _ _ z)) (λ z. refused-as mode r v (a .refusal) a e z refl (q ∙ granted-no (a .refusal) _ _ z)) (eq-or-ne (a .refusal) 0)
 
-held-filetype : (v : PaperView) (lim : Limited v) → filetypeRecord (naturalsOf (v .filetype .displacements)) (recordOf v .etype .entries) (nth (recordOf v .etype .displacements) 0) (extentOf (v .filetype)) ≡ recordOf v .filetype
-unfolding recordOf
-held-filetype v lim = filetype-hold v lim
+-- ---- `accept_record`: the record, and checks 7 to 10 of it
 
--- ---- step by step along the code
+module _ (mode : ℕ) (w x : View) (fw fd : List ℕ) (e : x ≡ w) where
+  pub record-ready : ShapesReady w fw fd → ShapesReady x fw fd
+  record-ready s = rw e s
 
-module _ (mode : ℕ) (r : List ℕ) (d : ℤ) (ew : List ℕ) (ed : List ℤ) (ex : ℤ) (fw : List ℕ) (fd : List ℤ) (fx : ℤ) (sd : SFits w64 d) (se : SFits w64 ex) (sf : SFits w64 fx) (k : ℕ) where
-  lent : PaperView
-  lent = viewOfTypes d (typeOfLists ew ed ex) (typeOfLists fw fd fx)
+  module _ (n : ℕ) (q : n ≡ shapesRefusal mode x fw fd) where
+    pub record-refused : (n ≡ 0 → ⊥) → (a : Accepted) → (a .refusal ≡ n) × (a .view ≡ defaultView) → RecordAccepted mode w fw fd a
+    record-refused h a r = record { refusal = r .0 ∙ q ∙ ap (λ (z : View). shapesRefusal mode z fw fd) e; view = r .1 ∙ sym (granted-no (a .refusal) w defaultView (λ z. h (sym (r .0) ∙ z))) }
 
+    pub record-granted : n ≡ 0 → RecordAccepted mode w fw fd (record { refusal = 0; view = x })
+    unfolding granted
+    record-granted z = record { refusal = sym z ∙ q ∙ ap (λ (y : View). shapesRefusal mode y fw fd) e; view = e }
+
+-- ---- `accept_lists`: the filetype's displacements as natural numbers, and the three signed numbers as the machine reads them
+
+module _ (d : ℤ) (ew : List ℕ) (ed : List ℤ) (ex : ℤ) (fw : List ℕ) (fd : List ℤ) (fx : ℤ) (lim : Limited (viewOfTypes d (typeOfLists ew ed ex) (typeOfLists fw fd fx))) where
+  pub naturals-ask : length fd ≤ 256
+  naturals-ask = pairs-few _ lim
+
+  pub groups-ask : 0 < length ew
+  groups-ask = etype-some _ lim
+
+  module _ (ns : List ℕ) (en : ns ≡ front (wholeAt fd) (length fd) (replicate 256 0)) where
+    -- the array of 256 has room for the displacements
+    pub naturals-room : length fd ≤ length ns
+    naturals-room = omega (arith, naturals-ask, ap length en, length-store (λ i. i) (wholeAt fd) (length fd) (replicate 256 0), length-replicate {A = ℕ} 256 0)
+
+    pub naturals-used : length fd ≡ length (take (length fd) ns)
+    naturals-used = sym (length-take-le (length fd) ns naturals-room)
+
+    naturals-are : take (length fd) ns ≡ naturalsOf fd
+    unfolding naturalsOf
+    naturals-are = ap (take (length fd)) en
+
+    pub record-asks : Recordable ew ed (take (length fd) ns)
+    record-asks = rw naturals-are (recordable _ lim)
+
+    module _ (sd : SFits w64 d) (se : SFits w64 ex) (sf : SFits w64 fx) (s x y : ℕ) (es : s ≡ whole (toZ w64 (ofZ w64 d))) (xe : x ≡ whole (toZ w64 (ofZ w64 ex))) (ye : y ≡ whole (toZ w64 (ofZ w64 fx))) where
+      record-is : viewRecord (record { displacement = s; etype = record { entries = length ew; extent = x }; filetype = record { instances = length fd / length ew; extent = y } }) ew ed (take (length fd) ns) ≡ recordOf (viewOfTypes d (typeOfLists ew ed ex) (typeOfLists fw fd fx))
+      unfolding extentOf
+      record-is =
+          let p = es ∙ ap whole (toZ-ofZ sd) in
+          let q = xe ∙ ap whole (toZ-ofZ se) in
+          let o = ye ∙ ap whole (toZ-ofZ sf) in
+          (λ i. viewRecord (record { displacement = p i; etype = record { entries = length ew; extent = q i }; filetype = record { instances = length fd / length ew; extent = o i } }) ew ed (naturals-are i)) ∙ record-hold _ lim
+
+      pub shapes-ask : ShapesReady (viewRecord (record { displacement = s; etype = record { entries = length ew; extent = x }; filetype = record { instances = length fd / length ew; extent = y } }) ew ed (take (length fd) ns)) fw (take (length fd) ns)
+      shapes-ask = rw (record-is, naturals-are) (ready _ lim)
+
+      pub shaped-as : (mode : ℕ) (a : Accepted) → RecordAccepted mode (viewRecord (record { displacement = s; etype = record { entries = length ew; extent = x }; filetype = record { instances = length fd / length ew; extent = y } }) ew ed (take (length fd) ns)) fw (take (length fd) ns) a → ListsAccepted mode (viewOfTypes d (typeOfLists ew ed ex) (typeOfLists fw fd fx)) a
+      shaped-as mode a j = record {
+        refusal = j .refusal ∙ (λ i. shapesRefusal mode (record-is i) fw (naturals-are i)) ∙ shapes-same _ lim mode;
+        view = j .view ∙ ap (λ (w : View). granted (a .refusal) w defaultView) record-is;
+      }
+
+-- ---- `accept`: checks 2 to 6, then 7 to 10
+
+module _ (mode : ℕ) (r : List ℕ) (d : ℤ) (ew : List ℕ) (ed : List ℤ) (ex : ℤ) (fw : List ℕ) (fd : List ℤ) (fx : ℤ) (sd : SFits w64 d) (se : SFits w64 ex) (sf : SFits w64 fx) where
   read : viewOfTypes (toZ w64 (ofZ w64 d)) (typeOfLists ew ed (toZ w64 (ofZ w64 ex))) (typeOfLists fw fd (toZ w64 (ofZ w64 fx))) ≡ viewOfTypes d (typeOfLists ew ed ex) (typeOfLists fw fd fx)
   read = let p = toZ-ofZ sd in let q = toZ-ofZ se in let s = toZ-ofZ sf in λ i. viewOfTypes (p i) (typeOfLists ew ed (q i)) (typeOfLists fw fd (s i))
 
-  module _ (ek : k ≡ limitsRefusal r (viewOfTypes (toZ w64 (ofZ w64 d)) (typeOfLists ew ed (toZ w64 (ofZ w64 ex))) (typeOfLists fw fd (toZ w64 (ofZ w64 fx)))) 0) where
+  module _ (k : ℕ) (ek : k ≡ limitsRefusal r (viewOfTypes (toZ w64 (ofZ w64 d)) (typeOfLists ew ed (toZ w64 (ofZ w64 ex))) (typeOfLists fw fd (toZ w64 (ofZ w64 fx)))) 0) where
     limits : k ≡ limitsRefusal r (viewOfTypes d (typeOfLists ew ed ex) (typeOfLists fw fd fx)) 0
     limits = ek ∙ ap (λ (v : PaperView). limitsRefusal r v 0) read
 
@@ -98,69 +132,11 @@ module _ (mode : ℕ) (r : List ℕ) (d : ℤ) (ew : List ℕ) (ed : List ℤ) (
     refused-limits a h e = refused-as mode r _ k a (limits-refused mode r _ k limits h) h (e .0) (e .1)
 
     module _ (z : k ≡ 0) where
-      lim : Limited (viewOfTypes d (typeOfLists ew ed ex) (typeOfLists fw fd fx))
-      lim = limited r _ k limits z
+      pub limits-leave : Limited (viewOfTypes (toZ w64 (ofZ w64 d)) (typeOfLists ew ed (toZ w64 (ofZ w64 ex))) (typeOfLists fw fd (toZ w64 (ofZ w64 fx))))
+      limits-leave = limited r _ k ek z
 
-      pub etype-asks : (length ew ≤ 8) × (length ed ≡ length ew)
-      etype-asks = (etype-few _ lim, sym (lim .etype-pairs))
-
-      pub naturals-ask : length fd ≤ 256
-      naturals-ask = pairs-few _ lim
-
-      -- the array of 256 has room for the displacements
-      module _ (ns : List ℕ) (en : ns ≡ front (wholeAt fd) (length fd) (replicate 256 0)) where
-        pub naturals-room : length fd ≤ length ns
-        naturals-room = omega (arith, naturals-ask, ap length en, length-store (λ i. i) (wholeAt fd) (length fd) (replicate 256 0), length-replicate {A = ℕ} 256 0)
-
-        pub naturals-used : length fd ≡ length (take (length fd) ns)
-        naturals-used = sym (length-take-le (length fd) ns naturals-room)
-
-      module _ (e : Etype) (x : ℕ) (xe : x ≡ whole (toZ w64 (ofZ w64 ex))) (ee : e ≡ etypeRecord ew ed x) where
-        etype-is : e ≡ recordOf (viewOfTypes d (typeOfLists ew ed ex) (typeOfLists fw fd fx)) .etype
-        unfolding extentOf
-        etype-is = ee ∙ ap (etypeRecord ew ed) (xe ∙ ap whole (toZ-ofZ se)) ∙ etype-hold _ lim
-
-        etype-some : 0 < e .entries
-        unfolding recordOf
-        etype-some = subst (λ (t : Etype). 0 < t .entries) (sym etype-is) (ready _ lim .entries .some)
-
-        module _ (ns : List ℕ) (en : ns ≡ front (wholeAt fd) (length fd) (replicate 256 0)) where
-          naturals-are : take (length fd) ns ≡ naturalsOf fd
-          unfolding naturalsOf
-          naturals-are = ap (take (length fd)) en
-
-          few-groups : length (naturalsOf fd) / recordOf (viewOfTypes d (typeOfLists ew ed ex) (typeOfLists fw fd fx)) .etype .entries ≤ 64
-          few-groups = subst (λ (g : ℕ). g ≤ 64) (ready _ lim .groups) (ready _ lim .few)
-
-          pub filetype-asks : (0 < e .entries) × (length (take (length fd) ns) / e .entries ≤ 64)
-          filetype-asks = (etype-some, subst (λ (t : Etype). length (take (length fd) ns) / t .entries ≤ 64) (sym etype-is) (rw naturals-are few-groups))
-
-          module _ (f : Filetype) (y : ℕ) (ye : y ≡ whole (toZ w64 (ofZ w64 fx))) (ef : f ≡ filetypeRecord (take (length fd) ns) (e .entries) (nth (e .displacements) 0) y) where
-            extent-is : y ≡ extentOf (typeOfLists fw fd fx)
-            unfolding extentOf
-            extent-is = ye ∙ ap whole (toZ-ofZ sf)
-
-            filetype-is : f ≡ recordOf (viewOfTypes d (typeOfLists ew ed ex) (typeOfLists fw fd fx)) .filetype
-            filetype-is = ef ∙ (λ i. filetypeRecord (naturals-are i) (etype-is i .entries) (nth (etype-is i .displacements) 0) (extent-is i)) ∙ held
-              where
-                held : filetypeRecord (naturalsOf fd) (recordOf (viewOfTypes d (typeOfLists ew ed ex) (typeOfLists fw fd fx)) .etype .entries) (nth (recordOf (viewOfTypes d (typeOfLists ew ed ex) (typeOfLists fw fd fx)) .etype .displacements) 0) (extentOf (typeOfLists fw fd fx)) ≡ recordOf (viewOfTypes d (typeOfLists ew ed ex) (typeOfLists fw fd fx)) .filetype
-                held = held-filetype _ lim
-
-            pub shapes-ask : ShapesReady e fw (take (length fd) ns) f
-            shapes-ask = rw (etype-is, filetype-is, naturals-are) (ready _ lim)
-
-            module _ (n : ℕ) (er : n ≡ shapesRefusal mode e fw (take (length fd) ns) f) where
-              rules-are : n ≡ rulesRefusal mode (viewOfTypes d (typeOfLists ew ed ex) (typeOfLists fw fd fx))
-              rules-are = er ∙ (λ i. shapesRefusal mode (etype-is i) fw (naturals-are i) (filetype-is i)) ∙ shapes-same _ lim mode
-
-              set-is : n ≡ setRefusal mode r (viewOfTypes d (typeOfLists ew ed ex) (typeOfLists fw fd fx))
-              set-is = limits-granted mode r _ k n limits z rules-are
-
-              pub refused-rules : (a : Accepted) → (n ≡ 0 → ⊥) → (a .refusal ≡ n) × (a .view ≡ defaultView) → AcceptedAs mode r (viewOfTypes d (typeOfLists ew ed ex) (typeOfLists fw fd fx)) a
-              refused-rules a h e = refused-as mode r _ n a set-is h (e .0) (e .1)
-
-              pub granted-rules : (s : ℕ) → n ≡ 0 → s ≡ whole (toZ w64 (ofZ w64 d)) → AcceptedAs mode r (viewOfTypes d (typeOfLists ew ed ex) (typeOfLists fw fd fx)) (record { refusal = 0; view = record { displacement = s; etype = e; filetype = f } })
-              granted-rules s q es = accepted-as mode r _ _ (sym q ∙ set-is) (λ i. record { displacement = start i; etype = etype-is i; filetype = filetype-is i })
-                where
-                  start : s ≡ recordOf (viewOfTypes d (typeOfLists ew ed ex) (typeOfLists fw fd fx)) .displacement
-                  start = es ∙ start-held d ew ed ex fw fd fx sd
+      pub accepted-shaped : (a : Accepted) → ListsAccepted mode (viewOfTypes (toZ w64 (ofZ w64 d)) (typeOfLists ew ed (toZ w64 (ofZ w64 ex))) (typeOfLists fw fd (toZ w64 (ofZ w64 fx)))) a → AcceptedAs mode r (viewOfTypes d (typeOfLists ew ed ex) (typeOfLists fw fd fx)) a
+      accepted-shaped a s = shaped-accepted mode r _ a (limits-granted mode r _ k (a .refusal) limits z (t .refusal)) (t .view)
+        where
+          t : ListsAccepted mode (viewOfTypes d (typeOfLists ew ed ex) (typeOfLists fw fd fx)) a
+          t = subst (λ (v : PaperView). ListsAccepted mode v a) read s

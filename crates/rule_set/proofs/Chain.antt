@@ -1,34 +1,10 @@
 -- The paper's chain of refusals is checks 2 to 6 and then 7 to 10, and what passing the first part leaves.
-use Prim.Native.Nat.{ℕ, _<_}
-use mathlib.Core.Bool.{Bool, true, false}
-use mathlib.Core.List.{List}
-use mathlib.Core.Path.{_≡_, refl, sym, _∙_}
-use native.Mathlib.Omega.{arith}
-use borrow.Author.Tests.{eqb-true, eq-eqb}
-use lib.Dec.{lit<}
-use lib.ListN.{length}
-use Rattle.laws.specs.Checks.{check}
-use Rattle.laws.proofs.Booleans.{check-inv, also-inv}
-use Rattle.view.specs.Limits.{etypeEntriesAllowed, filetypeEntriesAllowed, extentAllowed, displacementAllowed}
+use Rattle.laws.proofs.Prelude.{ℕ, _≡_, refl, sym, _∙_, true, List, lit<, eqb-true, eq-eqb, check-inv, also-inv, Passes, ends-here, check-passes}
 use Rattle.view.specs.Types.{PaperView, entries}
-use Rattle.view.specs.Rules.{paired, entriesAllowed, viewRefusal, setRefusal, accepted}
+use Rattle.view.specs.Rules.{paired, viewRefusal, setRefusal, accepted}
 use Rattle.rule_limits.specs.Parts.{countsAllowed}
 use Rattle.rule_lists.specs.Parts.{limitsRefusal}
-use Rattle.rule_set.specs.Parts.{rulesRefusal}
-
--- ---- a chain with later checks at its end: it passes to them, or it answers as without them
-
-pub record Passes (ends : ℕ → ℕ) : Type 0 where
-  pub on : (later : ℕ) → ends 0 ≡ 0 → ends later ≡ later
-  pub stops : (later : ℕ) → (ends 0 ≡ 0 → ⊥) → ends later ≡ ends 0
-
-ends-here : Passes (λ later. later)
-ends-here = record { on = λ later h. refl; stops = λ later h. absurd (h refl) }
-
-check-passes : (b : Bool) (k : ℕ) (ends : ℕ → ℕ) → 0 < k → Passes ends → Passes (λ later. check b k (ends later))
-unfolding check
-check-passes true k ends l p = p
-check-passes false k ends l p = record { on = λ later h. absurd (omega arith); stops = λ later h. refl }
+use Rattle.rule_set.specs.Parts.{rulesRefusal, Limited}
 
 limits-pass : (r : List ℕ) (v : PaperView) → Passes (limitsRefusal r v)
 unfolding limitsRefusal
@@ -52,17 +28,6 @@ unfolding setRefusal accepted
 set-accepted mode r v e = eq-eqb _ 0 (check-inv _ _ _ (lit< tt) e .1)
 
 -- ---- what checks 2 to 6 leave
-
-pub record Limited (v : PaperView) : Type 0 where
-  pub displacement : displacementAllowed (v .displacement) ≡ true
-  pub etype-pairs : length (v .etype .widths) ≡ length (v .etype .displacements)
-  pub filetype-pairs : length (v .filetype .widths) ≡ length (v .filetype .displacements)
-  pub etype-count : etypeEntriesAllowed (length (v .etype .widths)) ≡ true
-  pub filetype-count : filetypeEntriesAllowed (length (v .etype .widths)) (length (v .filetype .widths)) ≡ true
-  pub etype-extent : extentAllowed (v .etype .extent) ≡ true
-  pub filetype-extent : extentAllowed (v .filetype .extent) ≡ true
-  pub etype-entries : entriesAllowed (v .etype) ≡ true
-  pub filetype-entries : entriesAllowed (v .filetype) ≡ true
 
 pub limited : (r : List ℕ) (v : PaperView) (k : ℕ) → k ≡ limitsRefusal r v 0 → k ≡ 0 → Limited v
 unfolding limitsRefusal countsAllowed

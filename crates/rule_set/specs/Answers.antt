@@ -18,9 +18,9 @@ acceptAnswer mode representation v =
 
 -- the unused places of a view's record are 0
 pub record UnusedZero (v : View) : Type 0 where
-  pub widths : (i : ℕ) → v .etype .entries ≤ i → i < maxEtypeEntries → nth (v .etype .widths) i ≡ 0
-  pub displacements : (i : ℕ) → v .etype .entries ≤ i → i < maxEtypeEntries → nth (v .etype .displacements) i ≡ 0
-  pub origins : (i : ℕ) → v .filetype .instances ≤ i → i < maxInstances → nth (v .filetype .origins) i ≡ 0
+  pub widths : (i : ℕ) → v .numbers .etype .entries ≤ i → i < maxEtypeEntries → nth (v .widths) i ≡ 0
+  pub displacements : (i : ℕ) → v .numbers .etype .entries ≤ i → i < maxEtypeEntries → nth (v .displacements) i ≡ 0
+  pub origins : (i : ℕ) → v .numbers .filetype .instances ≤ i → i < maxInstances → nth (v .origins) i ≡ 0
 
 -- the whole answer; where it is granted, the record stands for the lent view, entry for entry, with both extents and the displacement
 pub record AcceptedAs (mode : ℕ) (representation : List ℕ) (v : PaperView) (r : Accepted) : Type 0 where

@@ -1,11 +1,16 @@
 // From lent lists to an accepted view, or to the refusal number that document 01 gives them: checks 2 to 10 in its order.
 ghost use mathlib.Core.Path.{_≡_};
 ghost use Rattle.view.specs.Types.{defaultView};
+ghost use Rattle.view.specs.Numbers.{viewWith};
+ghost use Rattle.rule_groups.specs.Parts.{Recordable, viewRecord};
 ghost use Rattle.rule_lists.specs.Lists.{typeOfLists, viewOfTypes};
 ghost use Rattle.rule_set.specs.Answers.{AcceptedAs};
-ghost use Rattle.rule_set.specs.Parts.{shapesRefusal, ShapesReady};
+ghost use Rattle.rule_set.specs.Parts.{Limited, tilesRefusal, TilesReady, shapesRefusal, ShapesReady, RecordAccepted, ListsAccepted};
 use view::Etype;
 use view::Filetype;
+use view::Numbers;
+use view::PerEntry;
+use view::PerInstance;
 use view::View;
 
 // The refusal number of checks 2 to 10, or 0, and the view, the default one if refused.
@@ -14,39 +19,55 @@ pub struct Accepted {
     pub view: View,
 }
 
-// The refusal number of checks 7 to 10, or 0. The order of each type comes before the groups, the groups before the holes.
-fn shapes_refusal(mode: u64, e: Etype, fw: &[u64], fd: &[u64], f: Filetype) -> u64
-    requires { ⌜ ShapesReady e (now fw) (now fd) f ⌝ }
-    ensures { λ r. ⌜ r ≡ shapesRefusal mode e (now (fw .entry)) (now (fd .entry)) f ⌝ }
+// The refusal number of checks 9 and 10, or 0: the holes, and overlap where the mode allows writing.
+fn tiles_refusal<'a>(
+    mode: u64,
+    v: Numbers,
+    widths: &'a PerEntry,
+    displacements: &'a PerEntry,
+    origins: &'a PerInstance,
+) -> u64
+    requires { ⌜ TilesReady v (now widths) (now displacements) (now origins) ⌝ }
+    ensures { λ r. ⌜ r ≡ tilesRefusal mode v (now (widths .entry)) (now (displacements .entry)) (now (origins .entry)) ⌝ }
 {
-    let displacements = e.displacements;
-    let n = e.entries as usize;
-    if !rule_entries::never_decrease(&displacements[..n]) {
+    let extent = v.filetype.extent;
+    if !rule_instances::holes_fit(v.filetype.instances, origins, extent, v.etype.extent) {
+        return View::REFUSED_HOLE;
+    }
+    if !View::allows_writing(mode) {
+        return 0;
+    }
+    if !rule_view::shape_apart(v, widths, displacements, origins) {
+        return View::REFUSED_OVERLAP;
+    }
+    0
+}
+
+// The refusal number of checks 7 to 10, or 0, on a view's record and the filetype's lists. The order of each type comes before the groups, the groups before the holes.
+fn shapes_refusal<'a>(
+    mode: u64,
+    v: Numbers,
+    widths: &'a PerEntry,
+    displacements: &'a PerEntry,
+    origins: &'a PerInstance,
+    fw: &[u64],
+    fd: &[u64],
+) -> u64
+    requires { ⌜ ShapesReady (viewWith v (now widths) (now displacements) (now origins)) (now fw) (now fd) ⌝ }
+    ensures { λ r. ⌜ r ≡ shapesRefusal mode (viewWith v (now (widths .entry)) (now (displacements .entry)) (now (origins .entry))) (now (fw .entry)) (now (fd .entry)) ⌝ }
+{
+    let used = v.etype.entries as usize;
+    let all: &[u64] = displacements;
+    if !rule_entries::never_decrease(&all[..used]) {
         return View::REFUSED_ORDER;
     }
     if !rule_entries::never_decrease(fd) {
         return View::REFUSED_ORDER;
     }
-    if !rule_groups::groups_match(e, fw, fd) {
+    if !rule_groups::groups_match(v.etype, widths, displacements, fw, fd) {
         return View::REFUSED_GROUPS;
     }
-    if !rule_instances::holes_fit(f.instances, &f.origins, f.extent, e.extent) {
-        return View::REFUSED_HOLE;
-    }
-    if !rule_limits::writes(mode) {
-        return 0;
-    }
-    if !rule_view::shape_apart(
-        e.entries,
-        &e.widths,
-        &e.displacements,
-        f.instances,
-        &f.origins,
-        f.extent,
-    ) {
-        return View::REFUSED_OVERLAP;
-    }
-    0
+    tiles_refusal(mode, v, widths, displacements, origins)
 }
 
 // A refusal, with the default view.
@@ -57,6 +78,63 @@ fn refused(refusal: u64) -> Accepted
         refusal: refusal,
         view: View::linear(),
     }
+}
+
+// The record of a view of these numbers and lent lists, and checks 7 to 10 of it. `fd` are the filetype's displacements as natural numbers.
+fn accept_record(mode: u64, v: Numbers, ew: &[u64], ed: &[i64], fw: &[u64], fd: &[u64]) -> Accepted
+    requires { ⌜ Recordable (now ew) (now ed) (now fd) × ShapesReady (viewRecord v (now ew) (now ed) (now fd)) (now fw) (now fd) ⌝ }
+    ensures { λ r. ⌜ RecordAccepted mode (viewRecord v (now (ew .entry)) (now (ed .entry)) (now (fd .entry))) (now (fw .entry)) (now (fd .entry)) r ⌝ }
+{
+    let view = rule_groups::view_of(v, ew, ed, fd);
+    let rules = shapes_refusal(
+        mode,
+        view.numbers,
+        &view.widths,
+        &view.displacements,
+        &view.origins,
+        fw,
+        fd,
+    );
+    if rules != 0 {
+        return refused(rules);
+    }
+    Accepted {
+        refusal: 0,
+        view: view,
+    }
+}
+
+// Checks 7 to 10 of lent lists that keep the limits, and the view.
+fn accept_lists(
+    mode: u64,
+    displacement: i64,
+    ew: &[u64],
+    ed: &[i64],
+    ex: i64,
+    fw: &[u64],
+    fd: &[i64],
+    fx: i64,
+) -> Accepted
+    requires { ⌜ Limited (viewOfTypes displacement (typeOfLists (now ew) (now ed) ex) (typeOfLists (now fw) (now fd) fx)) ⌝ }
+    ensures { λ r. ⌜ ListsAccepted mode (viewOfTypes displacement (typeOfLists (now (ew .entry)) (now (ed .entry)) ex) (typeOfLists (now (fw .entry)) (now (fd .entry)) fx)) r ⌝ }
+{
+    let mut naturals = [0u64; View::MAX_FILETYPE_ENTRIES as usize];
+    rule_groups::copy_displacements(fd, &mut naturals);
+    let m = fd.len();
+    let used = &naturals[..m];
+    let groups = m / ew.len();
+    let v = Numbers {
+        displacement: view::natural(displacement),
+        etype: Etype {
+            entries: ew.len() as u64,
+            extent: view::natural(ex),
+        },
+        filetype: Filetype {
+            instances: groups as u64,
+            extent: view::natural(fx),
+        },
+    };
+    accept_record(mode, v, ew, ed, fw, used)
 }
 
 // The view that lent lists make, accepted for a mode exactly if document 01's rules hold, or its refusal number.
@@ -78,21 +156,5 @@ pub fn accept(
     if limits != 0 {
         return refused(limits);
     }
-    let etype = rule_groups::etype_of(ew, ed, view::natural(ex));
-    let mut naturals = [0u64; View::MAX_FILETYPE_ENTRIES as usize];
-    rule_groups::copy_displacements(fd, &mut naturals);
-    let m = fd.len();
-    let filetype = rule_groups::filetype_of(etype, &naturals[..m], view::natural(fx));
-    let rules = shapes_refusal(mode, etype, fw, &naturals[..m], filetype);
-    if rules != 0 {
-        return refused(rules);
-    }
-    Accepted {
-        refusal: 0,
-        view: View {
-            displacement: view::natural(displacement),
-            etype: etype,
-            filetype: filetype,
-        },
-    }
+    accept_lists(mode, displacement, ew, ed, ex, fw, fd, fx)
 }

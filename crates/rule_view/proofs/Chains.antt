@@ -1,26 +1,12 @@
 -- The tests of this crate: the etype, the filetype and overlap.
-use Prim.Native.Nat.{ℕ, _+_, _-_, _*_, _≤_, _<_}
-use mathlib.Core.Bool.{Bool, true, false, not}
-use mathlib.Core.List.{List, map}
-use mathlib.Core.Path.{_≡_, sym, ap, _∙_}
-use native.Mathlib.Nat.{mul-le-mul}
-use native.Mathlib.Omega.{arith}
-use borrow.Author.Needs.{length-unmapped}
-use borrow.Author.Tests.{leb-true}
-use lib.ListN.{length, getD, take}
-use lib.Seq.{getD-take, length-take-le}
-use mir.Syntax.{w64}
-use mir.Val.{Fits}
-use Rattle.laws.specs.Lists.{nth}
-use Rattle.laws.specs.Search.{all}
-use Rattle.laws.proofs.Booleans.{also-inv, within-inv, unflag-true, unflag-false}
-use Rattle.laws.proofs.Searching.{all-at, all-same}
-use Rattle.laws.proofs.Sums.{greatest-least}
+use Rattle.laws.proofs.Prelude.{ℕ, _+_, _-_, _*_, _≤_, _<_, _≡_, sym, ap, _∙_, Bool, true, false, not, List, arith, mul-le-mul, length, getD, take, getD-take, length-take-le, w64, Fits, leb-true, all, nth, also-inv, within-inv, unflag-true, unflag-false, all-at, all-same, greatest-least}
+use Rattle.view.specs.declared.Numbers.{Numbers}
 use Rattle.view.specs.Rules.{ordered}
 use Rattle.rule_limits.specs.Parts.{entryFits}
-use Rattle.rule_entries.specs.Parts.{entryFitsAt, entryEnd, EntriesValid, reachOf}
+use Rattle.view.specs.Etypes.{entryEnd, EntriesValid, reachOf}
+use Rattle.rule_entries.specs.Parts.{entryFitsAt}
 use Rattle.rule_instances.specs.Parts.{OriginsValid, reachAt}
-use Rattle.rule_view.specs.Parts.{etypeOf, filetypeOf, etypeAccepted, filetypeAccepted, ShapeValid}
+use Rattle.rule_view.specs.Parts.{etypeAccepted, filetypeAccepted, ShapeValid}
 
 -- ---- the etype
 
@@ -37,51 +23,44 @@ upto l n m e h = omega arith
 pub prefix : (l : List ℕ) (n m : ℕ) → length l ≡ m → n ≤ m → n ≡ length (take n l)
 prefix l n m e h = sym (length-take-le n l (upto l n m e h))
 
--- and of an array that is a field
-pub upto-field : (l : List ℕ) (n m : ℕ) → length (map (λ (x : ℕ). x) l) ≡ m → n ≤ m → n ≤ length l
-upto-field l n m e h = upto l n m (length-unmapped ℕ l m e) h
-
-pub prefix-field : (l : List ℕ) (n m : ℕ) → length (map (λ (x : ℕ). x) l) ≡ m → n ≤ m → n ≡ length (take n l)
-prefix-field l n m e h = prefix l n m (length-unmapped ℕ l m e) h
-
-module _ (n : ℕ) (ws ds : List ℕ) (x : ℕ) (h : etypeAccepted (etypeOf n ws ds x) ≡ true) where
-  counts : (1 ≤ n) × (n ≤ 8)
+module _ (v : Numbers) (ws ds : List ℕ) (h : etypeAccepted (v .etype) ws ds ≡ true) where
+  counts : (1 ≤ v .etype .entries) × (v .etype .entries ≤ 8)
   unfolding etypeAccepted
-  counts = within-inv 1 8 n (also-inv _ _ h .0)
+  counts = within-inv 1 8 (v .etype .entries) (also-inv _ _ h .0)
 
-  extents : (1 ≤ x) × (x ≤ 1048576)
+  extents : (1 ≤ v .etype .extent) × (v .etype .extent ≤ 1048576)
   unfolding etypeAccepted
-  extents = within-inv 1 1048576 x (also-inv _ _ (also-inv _ _ h .1) .0)
+  extents = within-inv 1 1048576 (v .etype .extent) (also-inv _ _ (also-inv _ _ h .1) .0)
 
-  all-fit : all (entryFitsAt ws ds) n ≡ true
+  all-fit : all (entryFitsAt ws ds) (v .etype .entries) ≡ true
   unfolding etypeAccepted
   all-fit = also-inv _ _ (also-inv _ _ (also-inv _ _ h .1) .1) .0
 
-  entry-end : (i : ℕ) → i < n → entryEnd ws ds i ≤ 1048576
+  entry-end : (i : ℕ) → i < v .etype .entries → entryEnd ws ds i ≤ 1048576
   unfolding entryFitsAt entryFits
-  entry-end i l = leb-true _ _ (also-inv _ _ (all-at (entryFitsAt ws ds) n all-fit i l) .1)
+  entry-end i l = leb-true _ _ (also-inv _ _ (all-at (entryFitsAt ws ds) (v .etype .entries) all-fit i l) .1)
 
-  pub etype-entries : EntriesValid n ws ds
+  pub etype-entries : EntriesValid (v .etype .entries) ws ds
   etype-entries = record { some = omega (arith, counts .0); few = counts .1; ends = entry-end }
 
-  pub etype-extent : 0 < x
+  pub etype-extent : 0 < v .etype .extent
   etype-extent = omega (arith, extents .0)
 
-  pub etype-some : 1 ≤ n
+  pub etype-some : 1 ≤ v .etype .entries
   etype-some = counts .0
 
-  pub entries-fit : (k : ℕ) → k ≤ 64 → Fits w64 (k * n)
+  pub entries-fit : (k : ℕ) → k ≤ 64 → Fits w64 (k * v .etype .entries)
   entries-fit k l = record { fits = omega (arith, mul-le-mul l (counts .1)) }
 
-  pub reach-small : (r : ℕ) → r ≡ reachOf ws ds n → r ≤ 1048576
+  pub reach-small : (r : ℕ) → r ≡ reachOf ws ds (v .etype .entries) → r ≤ 1048576
   unfolding reachOf
-  reach-small r q = rw q (greatest-least (entryEnd ws ds) n 1048576 entry-end)
+  reach-small r q = rw q (greatest-least (entryEnd ws ds) (v .etype .entries) 1048576 entry-end)
 
-  pub last-in : n - 1 < 8
+  pub last-in : v .etype .entries - 1 < 8
   last-in = omega (arith, counts .0, counts .1)
 
-  pub last-small : getD ds (n - 1) 0 ≤ 1048576
-  last-small = omega (arith, entry-end (n - 1) (omega (arith, counts .0)))
+  pub last-small : getD ds (v .etype .entries - 1) 0 ≤ 1048576
+  last-small = omega (arith, entry-end (v .etype .entries - 1) (omega (arith, counts .0)))
 
   pub first-small : getD ds 0 0 ≤ 1048576
   first-small = omega (arith, entry-end 0 (omega (arith, counts .0)))
@@ -108,43 +87,43 @@ origins-flag k ps r t h n a b = reach-origins k ps r (unflag-true t _ h n) a b
 
 -- ---- overlap
 
-module _ (n : ℕ) (ws ds : List ℕ) (k : ℕ) (ps : List ℕ) (x : ℕ) (s : ShapeValid n ws ds k ps x) where
-  last-entry : n - 1 < n
+module _ (v : Numbers) (ws ds ps : List ℕ) (s : ShapeValid v ws ds ps) where
+  last-entry : v .etype .entries - 1 < v .etype .entries
   last-entry = omega (arith, s .entries .some)
 
-  last-end : getD ds (n - 1) 0 + getD ws (n - 1) 0 ≤ 1048576
-  last-end = s .entries .ends (n - 1) last-entry
+  last-end : getD ds (v .etype .entries - 1) 0 + getD ws (v .etype .entries - 1) 0 ≤ 1048576
+  last-end = s .entries .ends (v .etype .entries - 1) last-entry
 
   first-begin : getD ds 0 0 ≤ 1048576
   first-begin = omega (arith, s .entries .ends 0 (s .entries .some))
 
-  pub shape-end : Fits w64 (getD ds (n - 1) 0 + getD ws (n - 1) 0)
+  pub shape-end : Fits w64 (getD ds (v .etype .entries - 1) 0 + getD ws (v .etype .entries - 1) 0)
   shape-end = record { fits = omega (arith, last-end) }
 
-  pub shape-step : OriginsValid k ps × (getD ds (n - 1) 0 + getD ws (n - 1) 0 ≤ 1048576) × (getD ds 0 0 ≤ 1048576)
+  pub shape-step : OriginsValid (v .filetype .instances) ps × (getD ds (v .etype .entries - 1) 0 + getD ws (v .etype .entries - 1) 0 ≤ 1048576) × (getD ds 0 0 ≤ 1048576)
   shape-step = (s .origins, last-end, first-begin)
 
-  pub shape-tile : Fits w64 (getD ps (k - 1) 0 + (getD ds (n - 1) 0 + getD ws (n - 1) 0))
-  shape-tile = record { fits = omega (arith, last-end, s .origins .small (k - 1) (omega (arith, s .origins .some))) }
+  pub shape-tile : Fits w64 (getD ps (v .filetype .instances - 1) 0 + (getD ds (v .etype .entries - 1) 0 + getD ws (v .etype .entries - 1) 0))
+  shape-tile = record { fits = omega (arith, last-end, s .origins .small (v .filetype .instances - 1) (omega (arith, s .origins .some))) }
 
   pub shape-first : Fits w64 (getD ps 0 0 + getD ds 0 0)
   shape-first = record { fits = omega (arith, first-begin, s .origins .small 0 (s .origins .some)) }
 
-  pub shape-next : Fits w64 (getD ps 0 0 + getD ds 0 0 + x)
+  pub shape-next : Fits w64 (getD ps 0 0 + getD ds 0 0 + v .filetype .extent)
   shape-next = record { fits = omega (arith, first-begin, s .origins .small 0 (s .origins .some), s .extent) }
 
 -- ---- what the tests of the etype and the filetype leave for that of overlap
 
-module _ (n : ℕ) (ws ds : List ℕ) (x k : ℕ) (ps : List ℕ) (y : ℕ) where
-  shape-valid : etypeAccepted (etypeOf n ws ds x) ≡ true → filetypeAccepted (etypeOf n ws ds x) (filetypeOf k ps y) ≡ true → ShapeValid n ws ds k ps y
+module _ (v : Numbers) (ws ds ps : List ℕ) where
+  shape-valid : etypeAccepted (v .etype) ws ds ≡ true → filetypeAccepted v ws ds ps ≡ true → ShapeValid v ws ds ps
   unfolding filetypeAccepted
   shape-valid h g =
       let a = also-inv _ _ g in
       let b = also-inv _ _ (a .1) in
       let c = also-inv _ _ (b .1) in
       let d = also-inv _ _ (c .1) in
-      let m = within-inv 1 64 k (a .0) in
-      record { entries = etype-entries n ws ds x h; origins = reach-origins k ps _ (d .0) (m .0) (m .1); extent = within-inv 1 1048576 y (c .0) .1 }
+      let m = within-inv 1 64 _ (a .0) in
+      record { entries = etype-entries v ws ds h; origins = reach-origins _ ps _ (d .0) (m .0) (m .1); extent = within-inv 1 1048576 _ (c .0) .1 }
 
-  pub shape-flags : (t u : Bool) → t ≡ etypeAccepted (etypeOf n ws ds x) → not t ≡ false → u ≡ filetypeAccepted (etypeOf n ws ds x) (filetypeOf k ps y) → not u ≡ false → ShapeValid n ws ds k ps y
+  pub shape-flags : (t u : Bool) → t ≡ etypeAccepted (v .etype) ws ds → not t ≡ false → u ≡ filetypeAccepted v ws ds ps → not u ≡ false → ShapeValid v ws ds ps
   shape-flags t u a b c d = shape-valid (unflag-true t _ a b) (unflag-true u _ c d)

@@ -1,19 +1,5 @@
 -- Rules on the etype and on numbers alone, and entries that follow one another.
-use Prim.Native.Nat.{ℕ, zero, suc, _+_, _-_, _*_, _/_, _%_, _≤_, _<_}
-use mathlib.Core.Bool.{true}
-use mathlib.Core.Logic.{⊎-elim}
-use mathlib.Core.Path.{_≡_, refl, sym, _∙_}
-use native.Mathlib.Nat.{mod-lt}
-use native.Mathlib.Omega.{arith}
-use borrow.Author.Tests.{eq-eqb, lt-ltb, le-ltb}
-use lib.Dec.{leb}
-use Rattle.laws.specs.Checks.{within}
-use Rattle.laws.specs.Lists.{nth}
-use Rattle.laws.specs.Search.{all}
-use Rattle.laws.proofs.Booleans.{lt-or-le}
-use Rattle.laws.proofs.Searching.{all-same}
-use Rattle.laws.proofs.Stores.{length-tabulate}
-use Rattle.laws.proofs.Quotients.{run-below, run-div, run-mod, runs-below, next-in, next-over, times-more}
+use Rattle.laws.proofs.Prelude.{ℕ, zero, suc, _+_, _-_, _*_, _/_, _%_, _≤_, _<_, _≡_, refl, sym, _∙_, true, ⊎-elim, arith, mod-lt, leb, eq-eqb, lt-ltb, le-ltb, within, all, nth, lt-or-le, all-same, run-below, run-div, run-mod, runs-below, next-in, next-over, times-more, length-tabulate}
 use Rattle.view.specs.declared.View.{View}
 use Rattle.view.specs.Limits.{etypeEntriesAllowed, entryDisplacementAllowed, extentAllowed, displacementAllowed}
 use Rattle.view.specs.Types.{paper, entries}
@@ -27,39 +13,39 @@ use Rattle.rule_entries.specs.Parts.{entryFitsAt}
 module _ (v : View) where
   pub etype-paired : paired (paper v .etype) ≡ true
   unfolding paired paper
-  etype-paired = eq-eqb _ _ (length-tabulate _ (v .etype .entries) ∙ sym (length-tabulate _ (v .etype .entries)))
+  etype-paired = eq-eqb _ _ (length-tabulate _ (v .numbers .etype .entries) ∙ sym (length-tabulate _ (v .numbers .etype .entries)))
 
   pub filetype-paired : paired (paper v .filetype) ≡ true
   unfolding paired paper
-  filetype-paired = eq-eqb _ _ (length-tabulate _ (v .filetype .instances * v .etype .entries) ∙ sym (length-tabulate _ (v .filetype .instances * v .etype .entries)))
+  filetype-paired = eq-eqb _ _ (length-tabulate _ (v .numbers .filetype .instances * v .numbers .etype .entries) ∙ sym (length-tabulate _ (v .numbers .filetype .instances * v .numbers .etype .entries)))
 
-  pub start-same : displacementAllowed (paper v .displacement) ≡ leb (v .displacement) 1099511627776
+  pub start-same : displacementAllowed (paper v .displacement) ≡ leb (v .numbers .displacement) 1099511627776
   unfolding displacementAllowed paper
   start-same = refl
 
-  pub counts-same : etypeEntriesAllowed (entries (paper v .etype)) ≡ within 1 8 (v .etype .entries)
+  pub counts-same : etypeEntriesAllowed (entries (paper v .etype)) ≡ within 1 8 (v .numbers .etype .entries)
   unfolding etypeEntriesAllowed
   counts-same = rw (paper-entries v)
 
-  pub extent-same : extentAllowed (paper v .etype .extent) ≡ within 1 1048576 (v .etype .extent)
+  pub extent-same : extentAllowed (paper v .etype .extent) ≡ within 1 1048576 (v .numbers .etype .extent)
   unfolding extentAllowed paper
   extent-same = refl
 
-  pub file-extent-same : extentAllowed (paper v .filetype .extent) ≡ within 1 1048576 (v .filetype .extent)
+  pub file-extent-same : extentAllowed (paper v .filetype .extent) ≡ within 1 1048576 (v .numbers .filetype .extent)
   unfolding extentAllowed paper
   file-extent-same = refl
 
-  pub entries-same : entriesAllowed (paper v .etype) ≡ all (entryFitsAt (v .etype .widths) (v .etype .displacements)) (v .etype .entries)
+  pub entries-same : entriesAllowed (paper v .etype) ≡ all (entryFitsAt (v .widths) (v .displacements)) (v .numbers .etype .entries)
   unfolding entriesAllowed entryAllowed entryFitsAt entryFits entryDisplacementAllowed
   entries-same =
       rw (paper-entries v)
-      (all-same _ _ (v .etype .entries) (λ i l. rw (paper-width v i l, paper-displacement-read v i l)))
+      (all-same _ _ (v .numbers .etype .entries) (λ i l. rw (paper-width v i l, paper-displacement-read v i l)))
 
-  pub order-same : typeOrdered (paper v .etype) ≡ ordered (nth (v .etype .displacements)) (v .etype .entries)
+  pub order-same : typeOrdered (paper v .etype) ≡ ordered (nth (v .displacements)) (v .numbers .etype .entries)
   unfolding typeOrdered ordered
   order-same =
       rw (paper-entries v)
-      (all-same _ _ (v .etype .entries - 1) (λ i l. rw (paper-displacement v i (omega arith), paper-displacement v (i + 1) (omega arith))))
+      (all-same _ _ (v .numbers .etype .entries - 1) (λ i l. rw (paper-displacement v i (omega arith), paper-displacement v (i + 1) (omega arith))))
 
 -- ---- holes depend on the origins in use alone
 

@@ -1,19 +1,10 @@
 -- The tests on the record make up document 01's rules on the view that it stands for.
-use Prim.Native.Nat.{ℕ, _*_, _≤_, _<_}
-use mathlib.Core.Bool.{Bool, true, false, not}
-use mathlib.Core.Logic.{⊎-elim}
-use mathlib.Core.Path.{_≡_, sym, ap, _∙_}
-use native.Mathlib.Nat.{mul-le-mul-right, le-of-mul-le-mul-right, eq-zero-or-pos, zero-mul}
-use native.Mathlib.Omega.{arith}
-use borrow.Author.Tests.{le-leb, leb-true}
-use lib.Dec.{leb}
-use Rattle.laws.specs.Checks.{also, either, within}
-use Rattle.laws.proofs.Booleans.{iff, also-inv, also-true, within-inv, within-yes}
-use Rattle.laws.proofs.Quotients.{run-below}
+use Rattle.laws.proofs.Prelude.{ℕ, _*_, _≤_, _<_, _≡_, sym, ap, _∙_, Bool, true, false, not, ⊎-elim, arith, mul-le-mul-right, le-of-mul-le-mul-right, eq-zero-or-pos, zero-mul, leb, le-leb, leb-true, also, either, within, iff, also-inv, also-true, within-inv, within-yes, run-below}
 use Rattle.view.specs.declared.View.{View}
 use Rattle.view.specs.Limits.{filetypeEntriesAllowed}
 use Rattle.view.specs.Types.{paper, entries}
-use Rattle.view.specs.Rules.{instances, allowsWriting, accepted}
+use Rattle.view.specs.Rules.{instances, accepted}
+use Rattle.view.specs.Modes.{allowsWriting}
 use Rattle.view.proofs.Paper.{paper-entries, paper-file-entries}
 use Rattle.view.proofs.Accepted.{rules, rules-accept}
 use Rattle.rule_view.specs.Parts.{etypeAccepted, filetypeAccepted, viewAccepted}
@@ -59,14 +50,14 @@ module _ (mode : ℕ) (v : View) where
       let f3 = also-inv _ _ (f2 .1) in
       let f4 = also-inv _ _ (f3 .1) in
       let f5 = also-inv _ _ (f4 .1) in
-      let some : 0 < v .etype .entries = within-inv 1 8 (v .etype .entries) (e1 .0) .0 in
-      let more : 0 < v .filetype .instances = within-inv 1 64 (v .filetype .instances) (f1 .0) .0 in
+      let some : 0 < v .numbers .etype .entries = within-inv 1 8 (v .numbers .etype .entries) (e1 .0) .0 in
+      let more : 0 < v .numbers .filetype .instances = within-inv 1 64 (v .numbers .filetype .instances) (f1 .0) .0 in
       rules-accept mode (paper v) (record {
         displacement = start-same v ∙ a .0;
         etype-paired = etype-paired v;
         filetype-paired = filetype-paired v;
         etype-entries = counts-same v ∙ e1 .0;
-        filetype-entries = rw (paper-entries v, paper-file-entries v) (file-counts (v .etype .entries) (v .filetype .instances) some ∙ also-true (f1 .0) (f2 .0));
+        filetype-entries = rw (paper-entries v, paper-file-entries v) (file-counts (v .numbers .etype .entries) (v .numbers .filetype .instances) some ∙ also-true (f1 .0) (f2 .0));
         etype-extent = extent-same v ∙ e2 .0;
         filetype-extent = file-extent-same v ∙ f3 .0;
         etype-allowed = entries-same v ∙ e3 .0;
@@ -85,9 +76,9 @@ module _ (mode : ℕ) (v : View) where
       let e1 = sym (counts-same v) ∙ r .etype-entries in
       let e3 = sym (entries-same v) ∙ r .etype-allowed in
       let o = sym (order-same v) ∙ r .etype-ordered in
-      let some : 0 < v .etype .entries = within-inv 1 8 (v .etype .entries) e1 .0 in
-      let f = also-inv _ _ (sym (file-counts (v .etype .entries) (v .filetype .instances) some) ∙ (rw (paper-entries v, paper-file-entries v) at (r .filetype-entries))) in
-      let more : 0 < v .filetype .instances = within-inv 1 64 (v .filetype .instances) (f .0) .0 in
+      let some : 0 < v .numbers .etype .entries = within-inv 1 8 (v .numbers .etype .entries) e1 .0 in
+      let f = also-inv _ _ (sym (file-counts (v .numbers .etype .entries) (v .numbers .filetype .instances) some) ∙ (rw (paper-entries v, paper-file-entries v) at (r .filetype-entries))) in
+      let more : 0 < v .numbers .filetype .instances = within-inv 1 64 (v .numbers .filetype .instances) (f .0) .0 in
       also-true (sym (start-same v) ∙ r .displacement)
       (also-true (also-true e1 (also-true (sym (extent-same v) ∙ r .etype-extent) (also-true e3 o)))
       (also-true

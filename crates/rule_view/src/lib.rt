@@ -1,31 +1,32 @@
 // The test of a view as its record stands, whatever its numbers: does it keep the limits and rules for a mode?
 // The parts are tested on the record, at a cost that grows with the etype's entries plus the instances, and no list is copied.
-// `n` and `k` count the etype's entries and the instances; `ex` and `fx` are the etype's and the filetype's extents.
 ghost use mathlib.Core.Bool.{true};
 ghost use mathlib.Core.Path.{_≡_};
 ghost use Rattle.view.specs.Types.{paper};
 ghost use Rattle.view.specs.Rules.{accepted};
 ghost use Rattle.view.specs.Numbers.{viewWith};
-ghost use Rattle.rule_view.specs.Parts.{etypeOf, filetypeOf, etypeAccepted, filetypeAccepted, partsApart, ShapeValid};
+ghost use Rattle.rule_view.specs.Parts.{etypeAccepted, filetypeAccepted, shapeApart, ShapeValid};
+use view::Etype;
 use view::Numbers;
 use view::PerEntry;
 use view::PerInstance;
 use view::View;
 
 // Whether an etype keeps its limits and is ordered.
-fn etype_valid<'a>(n: u64, widths: &'a PerEntry, displacements: &'a PerEntry, ex: u64) -> bool
-    ensures { λ r. ⌜ r ≡ etypeAccepted (etypeOf n (now (widths .entry)) (now (displacements .entry)) ex) ⌝ }
+fn etype_valid<'a>(e: Etype, widths: &'a PerEntry, displacements: &'a PerEntry) -> bool
+    ensures { λ r. ⌜ r ≡ etypeAccepted e (now (widths .entry)) (now (displacements .entry)) ⌝ }
 {
+    let n = e.entries;
     if n < View::MIN_ENTRIES {
         return false;
     }
     if View::MAX_ETYPE_ENTRIES < n {
         return false;
     }
-    if ex < View::MIN_EXTENT {
+    if e.extent < View::MIN_EXTENT {
         return false;
     }
-    if View::MAX_EXTENT < ex {
+    if View::MAX_EXTENT < e.extent {
         return false;
     }
     if !rule_entries::entries_fit(n, widths, displacements) {
@@ -38,17 +39,17 @@ fn etype_valid<'a>(n: u64, widths: &'a PerEntry, displacements: &'a PerEntry, ex
 
 // Whether a filetype of instances of a valid etype keeps its limits, is ordered, and has holes that fit.
 fn filetype_valid<'a>(
-    n: u64,
+    v: Numbers,
     widths: &'a PerEntry,
     displacements: &'a PerEntry,
-    ex: u64,
-    k: u64,
     origins: &'a PerInstance,
-    fx: u64,
 ) -> bool
-    requires { ⌜ etypeAccepted (etypeOf n (now widths) (now displacements) ex) ≡ true ⌝ }
-    ensures { λ r. ⌜ r ≡ filetypeAccepted (etypeOf n (now (widths .entry)) (now (displacements .entry)) ex) (filetypeOf k (now (origins .entry)) fx) ⌝ }
+    requires { ⌜ etypeAccepted (v .etype) (now widths) (now displacements) ≡ true ⌝ }
+    ensures { λ r. ⌜ r ≡ filetypeAccepted v (now (widths .entry)) (now (displacements .entry)) (now (origins .entry)) ⌝ }
 {
+    let n = v.etype.entries;
+    let k = v.filetype.instances;
+    let fx = v.filetype.extent;
     if k < View::MIN_INSTANCES {
         return false;
     }
@@ -65,7 +66,7 @@ fn filetype_valid<'a>(
     if View::MAX_EXTENT < fx {
         return false;
     }
-    let reach = rule_entries::reach_of(n, widths, displacements);
+    let reach = v.etype.reach(widths, displacements);
     if !rule_instances::instances_fit(k, origins, reach) {
         return false;
     }
@@ -73,21 +74,21 @@ fn filetype_valid<'a>(
     if !rule_instances::instances_step(k, origins, displacements[last], displacements[0]) {
         return false;
     }
-    rule_instances::holes_fit(k, origins, fx, ex)
+    rule_instances::holes_fit(k, origins, fx, v.etype.extent)
 }
 
 // Whether the entries of a filetype of valid shape are apart, those of the next tile too. For our own crates.
 pub fn shape_apart<'a>(
-    n: u64,
+    v: Numbers,
     widths: &'a PerEntry,
     displacements: &'a PerEntry,
-    k: u64,
     origins: &'a PerInstance,
-    fx: u64,
 ) -> bool
-    requires { ⌜ ShapeValid n (now widths) (now displacements) k (now origins) fx ⌝ }
-    ensures { λ r. ⌜ r ≡ partsApart n (now (widths .entry)) (now (displacements .entry)) k (now (origins .entry)) fx ⌝ }
+    requires { ⌜ ShapeValid v (now widths) (now displacements) (now origins) ⌝ }
+    ensures { λ r. ⌜ r ≡ shapeApart v (now (widths .entry)) (now (displacements .entry)) (now (origins .entry)) ⌝ }
 {
+    let n = v.etype.entries;
+    let k = v.filetype.instances;
     if !rule_entries::entries_apart(n, widths, displacements) {
         return false;
     }
@@ -100,7 +101,7 @@ pub fn shape_apart<'a>(
     let instance = (k - 1) as usize;
     let tile_end = origins[instance] + end;
     let first = origins[0] + begin;
-    tile_end <= first + fx
+    tile_end <= first + v.filetype.extent
 }
 
 // Whether the view of these numbers and lists, whatever stands in them, keeps the limits and rules for this mode.
@@ -113,21 +114,17 @@ pub fn is_accepted<'a>(
 ) -> bool
     ensures { λ r. ⌜ r ≡ accepted mode (paper (viewWith v (now (widths .entry)) (now (displacements .entry)) (now (origins .entry)))) ⌝ }
 {
-    let n = v.etype.entries;
-    let ex = v.etype.extent;
-    let k = v.filetype.instances;
-    let fx = v.filetype.extent;
     if View::MAX_DISPLACEMENT < v.displacement {
         return false;
     }
-    if !etype_valid(n, widths, displacements, ex) {
+    if !etype_valid(v.etype, widths, displacements) {
         return false;
     }
-    if !filetype_valid(n, widths, displacements, ex, k, origins, fx) {
+    if !filetype_valid(v, widths, displacements, origins) {
         return false;
     }
-    if !rule_limits::writes(mode) {
+    if !View::allows_writing(mode) {
         return true;
     }
-    shape_apart(n, widths, displacements, k, origins, fx)
+    shape_apart(v, widths, displacements, origins)
 }

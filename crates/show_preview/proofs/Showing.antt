@@ -1,13 +1,5 @@
 -- What the program's calls require: a view that passed the test is valid, and its first offsets are allowed.
-use Prim.Native.Nat.{ℕ, _<_}
-use mathlib.Core.Bool.{Bool, true, false, not}
-use mathlib.Core.List.{List}
-use mathlib.Core.Path.{_≡_, ap, _∙_}
-use native.Mathlib.Omega.{arith}
-use borrow.Author.Needs.{needs}
-use borrow.Author.Tests.{lt-ltb}
-use lib.IntN.{ℤ, pos}
-use Rattle.laws.proofs.Booleans.{unflag-true}
+use Rattle.laws.proofs.Prelude.{ℕ, _<_, _≡_, ap, _∙_, Bool, true, false, not, List, arith, ℤ, pos, needs, lt-ltb, unflag-true}
 use Rattle.view.specs.declared.Numbers.{Numbers}
 use Rattle.view.specs.Limits.{offsetAllowed}
 use Rattle.view.specs.Types.{paper}

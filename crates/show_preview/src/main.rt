@@ -64,10 +64,10 @@ fn show_words(displacement: i64, ws: &[u64], ds: &[i64], extent: i64, mode: u64,
     io::write_all(STDOUT_FILENO, b"; ");
     let v = r.view;
     show_places(
-        v.numbers(),
-        &v.etype.widths,
-        &v.etype.displacements,
-        &v.filetype.origins,
+        v.numbers,
+        &v.widths,
+        &v.displacements,
+        &v.origins,
         mode,
         size,
     );

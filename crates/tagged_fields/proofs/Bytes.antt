@@ -1,21 +1,5 @@
 -- How the code reads numbers and headers: from the high byte down, with no wrap, and with 0 for bytes past the end.
-use Prim.Native.Nat.{ℕ, zero, suc, _+_, _-_, _*_, _/_, _^_, _≤_, _<_, min}
-use mathlib.Core.Bool.{true}
-use mathlib.Core.List.{List}
-use mathlib.Core.Logic.{⊎-elim}
-use mathlib.Core.Path.{_≡_, refl, sym, ap, _∙_, subst}
-use native.Mathlib.Nat.{pow-suc, pow-le-pow-right}
-use native.Mathlib.Omega.{arith}
-use borrow.Author.Needs.{needs, sfits-of}
-use borrow.Author.Tests.{lt-ltb, le-ltb, le-leb, lt-leb}
-use lib.IntN.{ℤ, pos, negsuc, _-ℤ_}
-use lib.ListN.{length, drop, drop-of-length-le, List·getD-eq-default}
-use lib.Signed.{mag}
-use mir.Syntax.{w64}
-use mir.Val.{Fits, SFits, toZ, ofZ, hbits}
-use mir.Facts.{toZ-pos, toZ-ofZ}
-use Rattle.laws.specs.Lists.{nth}
-use Rattle.laws.proofs.Booleans.{either-left, either-right, either-no, lt-or-le}
+use Rattle.laws.proofs.Prelude.{ℕ, zero, suc, _+_, _-_, _*_, _/_, _^_, _≤_, _<_, min, _≡_, refl, sym, ap, _∙_, subst, true, List, ⊎-elim, arith, pow-suc, pow-le-pow-right, length, drop, drop-of-length-le, List·getD-eq-default, ℤ, pos, negsuc, _-ℤ_, mag, w64, Fits, SFits, toZ, ofZ, hbits, toZ-pos, toZ-ofZ, needs, sfits-of, lt-ltb, le-ltb, le-leb, lt-leb, nth, either-left, either-right, either-no, lt-or-le}
 use Rattle.tagged_fields.specs.declared.Field.the-variants.{Whole, Cut, End}
 use Rattle.tagged_fields.specs.Fields.{little, numberAt, signedOf, bodyLength, isCut, fieldAt}
 

@@ -47,12 +47,13 @@ fn feed_all(d: u64, s: &[u64]) -> u64 {
 // The checksum of a handle's mode and whole view.
 fn handle_sum(h: Handle) -> u64 {
     let view = h.view;
-    let etype = view.etype;
-    let filetype = view.filetype;
-    let widths = etype.widths;
-    let displacements = etype.displacements;
-    let origins = filetype.origins;
-    let first = [h.mode, view.displacement, etype.entries];
+    let numbers = view.numbers;
+    let etype = numbers.etype;
+    let filetype = numbers.filetype;
+    let widths = view.widths;
+    let displacements = view.displacements;
+    let origins = view.origins;
+    let first = [h.mode, numbers.displacement, etype.entries];
     let middle = [etype.extent, filetype.instances];
     let a = feed_all(checksum::BEGIN, &first);
     let b = feed_all(a, &widths);

@@ -10,6 +10,7 @@ use file::Handle;
 use view::BytePos;
 use view::Etype;
 use view::Filetype;
+use view::Numbers;
 use view::Offset;
 use view::Owner;
 use view::View;
@@ -67,21 +68,21 @@ fn forged_view(body: &[u8]) -> View {
         &mut displacements,
     );
     tagged_fields::numbers_into(body, 23, View::MAX_INSTANCES as usize, &mut origins);
-    let etype = Etype {
-        entries: tagged_fields::number(body, 4),
+    View {
+        numbers: Numbers {
+            displacement: tagged_fields::number(body, 3),
+            etype: Etype {
+                entries: tagged_fields::number(body, 4),
+                extent: tagged_fields::number(body, 21),
+            },
+            filetype: Filetype {
+                instances: tagged_fields::number(body, 22),
+                extent: tagged_fields::number(body, 87),
+            },
+        },
         widths: widths,
         displacements: displacements,
-        extent: tagged_fields::number(body, 21),
-    };
-    let filetype = Filetype {
-        instances: tagged_fields::number(body, 22),
         origins: origins,
-        extent: tagged_fields::number(body, 87),
-    };
-    View {
-        displacement: tagged_fields::number(body, 3),
-        etype: etype,
-        filetype: filetype,
     }
 }
 

@@ -1,21 +1,9 @@
 -- What an accepted view keeps: the rules one by one, and the same as facts on numbers.
-use Prim.Native.Nat.{ℕ, _+_, _*_, _/_, _%_, _≤_, _<_}
-use mathlib.Core.Bool.{true, not}
-use mathlib.Core.Logic.{⊎-elim}
-use mathlib.Core.Path.{_≡_, refl, sym, ap, _∙_}
-use native.Mathlib.Nat.{div-add-mod', le-of-mul-le-mul-right, mod-lt, eq-zero-or-pos, zero-mul, mul-mod-left, add-zero}
-use native.Mathlib.Omega.{arith}
-use borrow.Author.Tests.{leb-true, le-leb, eqb-true, eq-eqb}
-use lib.Dec.{lit<}
-use lib.IntN.{ℤ, pos, negsuc}
-use lib.ListN.{getD}
-use Rattle.laws.specs.Checks.{either}
-use Rattle.laws.proofs.Booleans.{check-inv, check-zero, also-true, also-inv, either-inv, within-inv, not-both}
-use Rattle.laws.proofs.Searching.{all-at, all-intro}
-use Rattle.laws.proofs.Quotients.{run-below, runs-below, run-div, run-mod}
+use Rattle.laws.proofs.Prelude.{ℕ, _+_, _*_, _/_, _%_, _≤_, _<_, _≡_, refl, sym, ap, _∙_, true, not, ⊎-elim, arith, div-add-mod', le-of-mul-le-mul-right, mod-lt, eq-zero-or-pos, zero-mul, mul-mod-left, add-zero, getD, ℤ, pos, negsuc, lit<, leb-true, le-leb, eqb-true, eq-eqb, either, check-inv, check-zero, also-true, also-inv, either-inv, within-inv, not-both, all-at, all-intro, run-below, runs-below, run-div, run-mod}
 use Rattle.view.specs.Limits.{widthAllowed, etypeEntriesAllowed, filetypeEntriesAllowed, entryDisplacementAllowed, extentAllowed, displacementAllowed}
 use Rattle.view.specs.Types.{PaperType, PaperView, entries, widthAt, displacementAt, extentOf, whole}
-use Rattle.view.specs.Rules.{paired, entryAllowed, entriesAllowed, typeOrdered, instances, origin, IsBuilt, entryBuilt, built, viewHolesFit, apart, allowsWriting, viewRefusal, accepted, Valid}
+use Rattle.view.specs.Rules.{paired, entryAllowed, entriesAllowed, typeOrdered, instances, origin, IsBuilt, entryBuilt, built, viewHolesFit, apart, viewRefusal, accepted, Valid}
+use Rattle.view.specs.Modes.{allowsWriting}
 
 -- ---- the rules one by one
 

@@ -1,14 +1,5 @@
 -- End of file: the greatest over the instances is the smallest offset such that no etype at it or later begins below the size, and nothing else is.
-use Prim.Native.Nat.{ℕ, _+_, _-_, _*_, _/_, _%_, _≤_, _<_}
-use mathlib.Core.Logic.{⊎-elim}
-use mathlib.Core.Path.{_≡_}
-use native.Mathlib.Nat.{div-add-mod', mod-lt, le-div-iff-mul-le, mul-le-mul-right, div-mul-le-self, le-antisymm}
-use native.Mathlib.Omega.{arith}
-use borrow.Author.Tests.{lt-ltb, le-ltb}
-use Rattle.laws.specs.Search.{greatest}
-use Rattle.laws.proofs.Booleans.{lt-or-le}
-use Rattle.laws.proofs.Sums.{greatest-above, greatest-one}
-use Rattle.laws.proofs.Quotients.{run-div, run-mod}
+use Rattle.laws.proofs.Prelude.{ℕ, _+_, _-_, _*_, _/_, _%_, _≤_, _<_, _≡_, ⊎-elim, arith, div-add-mod', mod-lt, le-div-iff-mul-le, mul-le-mul-right, div-mul-le-self, le-antisymm, lt-ltb, le-ltb, greatest, lt-or-le, run-div, run-mod, greatest-above, greatest-one}
 use Rattle.view.specs.Types.{PaperView, extentOf, whole}
 use Rattle.view.specs.Rules.{instances, origin, Valid}
 use Rattle.view.specs.Places.{place}

@@ -1,17 +1,5 @@
 -- The record in which an accepted view is held stands for that view, and its unused places are 0.
-use Prim.Native.Nat.{ℕ, _+_, _/_, _%_, _≤_, _<_}
-use mathlib.Core.Bool.{true}
-use mathlib.Core.Path.{_≡_, refl, sym, ap, _∙_}
-use native.Mathlib.Nat.{mod-lt}
-use native.Mathlib.Omega.{arith}
-use borrow.Author.Tests.{eqb-true}
-use lib.IntN.{ℤ, pos, negsuc}
-use lib.ListN.{length, getD, replicate, length-replicate, getD-replicate}
-use Rattle.laws.specs.Lists.{nth, front, tabulate}
-use Rattle.laws.proofs.Booleans.{not-both, also-inv}
-use Rattle.laws.proofs.Searching.{all-at}
-use Rattle.laws.proofs.Stores.{tabulate-is, front-at, front-past}
-use Rattle.laws.proofs.Quotients.{runs-below}
+use Rattle.laws.proofs.Prelude.{ℕ, _+_, _/_, _%_, _≤_, _<_, _≡_, refl, sym, ap, _∙_, true, arith, mod-lt, length, getD, replicate, length-replicate, getD-replicate, ℤ, pos, negsuc, eqb-true, nth, front, tabulate, not-both, also-inv, all-at, runs-below, tabulate-is, front-at, front-past}
 use Rattle.view.specs.Limits.{displacementAllowed, extentAllowed, entryDisplacementAllowed}
 use Rattle.view.specs.Types.{PaperType, PaperView, entries, widthAt, displacementAt, extentOf, whole, paper}
 use Rattle.view.specs.Rules.{paired, entryAllowed, entriesAllowed, instances, origin, recordOf, accepted}
@@ -96,8 +84,8 @@ module _ (mode : ℕ) (v : PaperView) (h : accepted mode v ≡ true) where
   etype-same : paper (recordOf v) .etype ≡ v .etype
   unfolding paper recordOf
   etype-same =
-      let w = type-widths (v .etype) (nth (recordOf v .etype .widths)) width-held in
-      let d = type-displacements (v .etype) (nth (recordOf v .etype .displacements)) (r .etype-paired) (r .etype-allowed) displacement-held in
+      let w = type-widths (v .etype) (nth (recordOf v .widths)) width-held in
+      let d = type-displacements (v .etype) (nth (recordOf v .displacements)) (r .etype-paired) (r .etype-allowed) displacement-held in
       let x = type-extent (v .etype) (r .etype-extent) in
       λ i. record { widths = w i; displacements = d i; extent = x i }
 
@@ -105,8 +93,8 @@ module _ (mode : ℕ) (v : PaperView) (h : accepted mode v ≡ true) where
   unfolding paper recordOf
   filetype-same =
       let n = entries (v .etype) in
-      let w = ap (tabulate (λ i. nth (recordOf v .etype .widths) (i % n))) (f .groups) ∙ type-widths (v .filetype) (λ i. nth (recordOf v .etype .widths) (i % n)) file-width in
-      let d = ap (tabulate (λ i. pos (nth (recordOf v .filetype .origins) (i / n) + nth (recordOf v .etype .displacements) (i % n)))) (f .groups) ∙ type-displacements (v .filetype) (λ i. nth (recordOf v .filetype .origins) (i / n) + nth (recordOf v .etype .displacements) (i % n)) (r .filetype-paired) (r .filetype-allowed) file-displacement in
+      let w = ap (tabulate (λ i. nth (recordOf v .widths) (i % n))) (f .groups) ∙ type-widths (v .filetype) (λ i. nth (recordOf v .widths) (i % n)) file-width in
+      let d = ap (tabulate (λ i. pos (nth (recordOf v .origins) (i / n) + nth (recordOf v .displacements) (i % n)))) (f .groups) ∙ type-displacements (v .filetype) (λ i. nth (recordOf v .origins) (i / n) + nth (recordOf v .displacements) (i % n)) (r .filetype-paired) (r .filetype-allowed) file-displacement in
       let x = type-extent (v .filetype) (r .filetype-extent) in
       λ i. record { widths = w i; displacements = d i; extent = x i }
 

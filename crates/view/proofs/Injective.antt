@@ -1,19 +1,10 @@
 -- The law of demand 3: in a view whose entries are apart, different pairs of offset and data byte lie at different bytes.
 -- Entry number q of the whole view, over all tiles, ends at or before entry q + 1 begins; data byte j of offset x lies in entry x·n + e.
 -- Later landings use `distinct` and `narrow` alone: a new overlap rule proves these two again.
-use Prim.Native.Nat.{ℕ, zero, suc, _+_, _-_, _*_, _/_, _%_, _≤_, _<_}
-use mathlib.Core.Bool.{true}
-use mathlib.Core.Logic.{⊎-elim}
-use mathlib.Core.Path.{_≡_, sym, ap, _∙_}
-use native.Mathlib.Nat.{div-add-mod', mod-lt, add-mul, mul-assoc, add-zero, add-suc, zero-div, zero-mod, div-self, mod-self}
-use native.Mathlib.Numerals.{add-one}
-use native.Mathlib.Omega.{arith}
-use borrow.Author.Tests.{leb-true, lt-ltb, le-ltb}
-use Rattle.laws.proofs.Booleans.{lt-or-le}
-use Rattle.laws.proofs.Searching.{all-at}
-use Rattle.laws.proofs.Quotients.{run-div, run-mod, run-below, next-in, next-over, times-more}
+use Rattle.laws.proofs.Prelude.{ℕ, zero, suc, _+_, _-_, _*_, _/_, _%_, _≤_, _<_, _≡_, sym, ap, _∙_, true, ⊎-elim, arith, div-add-mod', mod-lt, add-mul, mul-assoc, add-zero, add-suc, zero-div, zero-mod, div-self, mod-self, add-one, leb-true, lt-ltb, le-ltb, lt-or-le, all-at, run-div, run-mod, run-below, next-in, next-over, times-more}
 use Rattle.view.specs.Types.{PaperView, entries, widthAt, displacementAt, extentOf, whole}
-use Rattle.view.specs.Rules.{instances, apart, entryApart, nextBegins, accepted, allowsWriting}
+use Rattle.view.specs.Rules.{instances, apart, entryApart, nextBegins, accepted}
+use Rattle.view.specs.Modes.{allowsWriting}
 use Rattle.view.specs.Places.{place, dataSize, packedBefore, entryOf, dataAt, byteOf, Distinct, Narrow}
 use Rattle.view.proofs.Accepted.{Facts, facts, accepted-valid, writing-apart, instances-some}
 use Rattle.view.proofs.Packing.{entry-below, entry-ends, entry-begins}

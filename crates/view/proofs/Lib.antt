@@ -8,3 +8,4 @@ pub mod Owning
 pub mod Holding
 pub mod Signs
 pub mod Same
+pub mod Etypes

@@ -1,20 +1,10 @@
 -- The reverse lookup: what it finds is the pair that the byte belongs to, or there is none; and nothing else is.
-use Prim.Native.Nat.{ℕ, _+_, _-_, _*_, _/_, _%_, _≤_, _<_}
-use mathlib.Core.Bool.{true, not}
-use mathlib.Core.Logic.{⊎-elim}
-use mathlib.Core.Path.{_≡_, refl, sym, ap, _∙_}
-use native.Mathlib.Nat.{div-add-mod', mod-lt, eq-or-lt-of-le}
-use native.Mathlib.Omega.{arith}
-use borrow.Author.Tests.{lt-ltb, le-ltb, le-leb, ltb-true, leb-true, not-false, not-true}
-use lib.IntN.{pos}
-use Rattle.laws.specs.Search.{first}
-use Rattle.laws.proofs.Booleans.{also-inv, also-true, lt-or-le, not-both}
-use Rattle.laws.proofs.Searching.{first-le, first-keeps, first-breaks}
-use Rattle.laws.proofs.Quotients.{run-div, run-mod, run-below, runs-below}
+use Rattle.laws.proofs.Prelude.{ℕ, _+_, _-_, _*_, _/_, _%_, _≤_, _<_, _≡_, refl, sym, ap, _∙_, true, not, ⊎-elim, arith, div-add-mod', mod-lt, eq-or-lt-of-le, pos, lt-ltb, le-ltb, le-leb, ltb-true, leb-true, not-false, not-true, first, also-inv, also-true, lt-or-le, not-both, first-le, first-keeps, first-breaks, run-div, run-mod, run-below, runs-below}
 use Rattle.view.specs.declared.Owner.{Owner}
 use Rattle.view.specs.declared.Owner.the-variants.{Pair, Nobody}
 use Rattle.view.specs.Types.{PaperView, entries, widthAt, displacementAt, extentOf, whole}
-use Rattle.view.specs.Rules.{instances, accepted, allowsWriting}
+use Rattle.view.specs.Rules.{instances, accepted}
+use Rattle.view.specs.Modes.{allowsWriting}
 use Rattle.view.specs.Places.{place, packedBefore, dataSize, entryOf, dataAt, byteOf, Distinct, Narrow}
 use Rattle.view.specs.Owners.{Belongs, OneOwner, Answers, entryStart, offsetIn, indexIn, hits, hitEntry, ownerOf}
 use Rattle.view.proofs.Accepted.{Facts, facts, accepted-valid, instances-some}

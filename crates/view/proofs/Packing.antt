@@ -1,14 +1,5 @@
 -- The packed data of an etype: which entry holds a packed byte, and where it lies.
-use Prim.Native.Nat.{ℕ, _+_, _-_, _≤_, _<_}
-use mathlib.Core.Logic.{⊎-elim}
-use mathlib.Core.Path.{_≡_, refl, sym, ap}
-use native.Mathlib.Nat.{eq-zero-or-pos, eq-or-lt-of-le}
-use native.Mathlib.Omega.{arith}
-use borrow.Author.Tests.{leb-true, leb-false, le-leb, lt-leb}
-use lib.Dec.{leb}
-use Rattle.laws.specs.Search.{total, first}
-use Rattle.laws.proofs.Searching.{first-le, first-keeps, first-breaks, first-is}
-use Rattle.laws.proofs.Sums.{total-part, total-more}
+use Rattle.laws.proofs.Prelude.{ℕ, _+_, _-_, _≤_, _<_, _≡_, refl, sym, ap, ⊎-elim, arith, eq-zero-or-pos, eq-or-lt-of-le, leb, leb-true, leb-false, le-leb, lt-leb, total, first, first-le, first-keeps, first-breaks, first-is, total-part, total-more}
 use Rattle.view.specs.Types.{PaperType, entries, widthAt, displacementAt}
 use Rattle.view.specs.Places.{packedBefore, entryOf, dataAt}
 

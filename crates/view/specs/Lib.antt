@@ -1,4 +1,5 @@
 pub mod Limits
+pub mod Modes
 pub mod Types
 pub mod Rules
 pub mod Places
@@ -6,3 +7,4 @@ pub mod Owners
 pub mod End
 pub mod Same
 pub mod Numbers
+pub mod Etypes

@@ -1,21 +1,9 @@
--- A view as inner functions take it: its numbers by value, and of its three lists those that they need, lent. A reader need not believe these: the contracts of calls speak of the view's record.
+-- A view as inner functions take it: its numbers by value, and of its three lists those that they need, lent. A reader need not believe this: the contracts of calls speak of the view's record.
 use Prim.Native.Nat.{ℕ}
 use mathlib.Core.List.{List}
 use Rattle.view.specs.declared.View.{View}
 use Rattle.view.specs.declared.Numbers.{Numbers}
 
--- the numbers of a view
-abbrev pub numbersOf : View → Numbers
-numbersOf v = record {
-  displacement = v .displacement;
-  etype = record { entries = v .etype .entries; extent = v .etype .extent };
-  filetype = record { instances = v .filetype .instances; extent = v .filetype .extent };
-}
-
 -- the view of these numbers, with the etype's widths and displacements and the filetype's origins
 abbrev pub viewWith : Numbers → List ℕ → List ℕ → List ℕ → View
-viewWith v ws ds ps = record {
-  displacement = v .displacement;
-  etype = record { entries = v .etype .entries; widths = ws; displacements = ds; extent = v .etype .extent };
-  filetype = record { instances = v .filetype .instances; origins = ps; extent = v .filetype .extent };
-}
+viewWith v ws ds ps = record { numbers = v; widths = ws; displacements = ds; origins = ps }

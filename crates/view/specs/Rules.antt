@@ -6,11 +6,12 @@ use mathlib.Core.Path.{_≡_}
 use lib.Dec.{leb, ltb, eqb}
 use lib.IntN.{pos}
 use lib.ListN.{length, getD, replicate}
-use Rattle.laws.specs.Checks.{also, either, within, check}
+use Rattle.laws.specs.Checks.{also, either, check}
 use Rattle.laws.specs.Search.{all}
 use Rattle.laws.specs.Lists.{front, nth}
 use Rattle.view.specs.declared.View.{View}
 use Rattle.view.specs.Limits.{maxEtypeEntries, maxInstances, widthAllowed, etypeEntriesAllowed, filetypeEntriesAllowed, entryDisplacementAllowed, extentAllowed, displacementAllowed}
+use Rattle.view.specs.Modes.{allowsWriting}
 use Rattle.view.specs.Types.{PaperType, PaperView, entries, widthAt, displacementAt, extentOf, whole}
 
 -- ---- limits
@@ -98,17 +99,6 @@ entryApart v i = leb (displacementAt (v .filetype) i + widthAt (v .filetype) i) 
 unfoldable pub apart : PaperView → Bool
 apart v = all (entryApart v) (entries (v .filetype))
 
--- ---- modes: 1 reading, 2 writing, 3 both
-
-unfoldable pub modeAllowed : ℕ → Bool
-modeAllowed mode = within 1 3 mode
-
-unfoldable pub allowsReading : ℕ → Bool
-allowsReading mode = either (eqb mode 1) (eqb mode 3)
-
-unfoldable pub allowsWriting : ℕ → Bool
-allowsWriting mode = either (eqb mode 2) (eqb mode 3)
-
 -- ---- refusals 3 to 10 in their order, and 2 before them
 
 unfoldable pub viewRefusal : ℕ → PaperView → ℕ
@@ -139,17 +129,14 @@ pub record Valid (v : PaperView) : Type 0 where
 unfoldable pub recordOf : PaperView → View
 recordOf v =
     let n = entries (v .etype) in
+    let k = instances v in
     record {
-      displacement = whole (v .displacement);
-      etype = record {
-        entries = n;
-        widths = front (widthAt (v .etype)) n (replicate maxEtypeEntries 0);
-        displacements = front (displacementAt (v .etype)) n (replicate maxEtypeEntries 0);
-        extent = extentOf (v .etype);
+      numbers = record {
+        displacement = whole (v .displacement);
+        etype = record { entries = n; extent = extentOf (v .etype) };
+        filetype = record { instances = k; extent = extentOf (v .filetype) };
       };
-      filetype = record {
-        instances = instances v;
-        origins = front (origin v) (instances v) (replicate maxInstances 0);
-        extent = extentOf (v .filetype);
-      };
+      widths = front (widthAt (v .etype)) n (replicate maxEtypeEntries 0);
+      displacements = front (displacementAt (v .etype)) n (replicate maxEtypeEntries 0);
+      origins = front (origin v) k (replicate maxInstances 0);
     }

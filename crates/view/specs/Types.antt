@@ -43,19 +43,19 @@ extentOf t = whole (t .extent)
 -- All that is said of a record below is said of this; what its other places hold plays no part
 unfoldable pub paper : View → PaperView
 paper v =
-    let n = v .etype .entries in
-    let k = v .filetype .instances in
+    let n = v .numbers .etype .entries in
+    let k = v .numbers .filetype .instances in
     record {
-      displacement = pos (v .displacement);
+      displacement = pos (v .numbers .displacement);
       etype = record {
-        widths = tabulate (λ i. nth (v .etype .widths) i) n;
-        displacements = tabulate (λ i. pos (nth (v .etype .displacements) i)) n;
-        extent = pos (v .etype .extent);
+        widths = tabulate (λ i. nth (v .widths) i) n;
+        displacements = tabulate (λ i. pos (nth (v .displacements) i)) n;
+        extent = pos (v .numbers .etype .extent);
       };
       filetype = record {
-        widths = tabulate (λ i. nth (v .etype .widths) (i % n)) (k * n);
-        displacements = tabulate (λ i. pos (nth (v .filetype .origins) (i / n) + nth (v .etype .displacements) (i % n))) (k * n);
-        extent = pos (v .filetype .extent);
+        widths = tabulate (λ i. nth (v .widths) (i % n)) (k * n);
+        displacements = tabulate (λ i. pos (nth (v .origins) (i / n) + nth (v .displacements) (i % n))) (k * n);
+        extent = pos (v .numbers .filetype .extent);
       };
     }
 
@@ -66,7 +66,8 @@ SameView v w = paper v ≡ paper w
 -- the default view: displacement 0, both types one entry of width 1 at 0 with extent 1
 unfoldable pub defaultView : View
 defaultView = record {
-  displacement = 0;
-  etype = record { entries = 1; widths = 1 ∷ replicate (maxEtypeEntries - 1) 0; displacements = replicate maxEtypeEntries 0; extent = 1 };
-  filetype = record { instances = 1; origins = replicate maxInstances 0; extent = 1 };
+  numbers = record { displacement = 0; etype = record { entries = 1; extent = 1 }; filetype = record { instances = 1; extent = 1 } };
+  widths = 1 ∷ replicate (maxEtypeEntries - 1) 0;
+  displacements = replicate maxEtypeEntries 0;
+  origins = replicate maxInstances 0;
 }

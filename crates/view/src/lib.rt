@@ -1,10 +1,12 @@
-// A file view: displacement, etype and filetype, as MPI defines it, with its limits, the modes, the refusal numbers and the default view.
+// A file view: displacement, etype and filetype, as MPI defines it, with its limits, the refusal numbers and the default view; the modes are in mode.rt, what an etype's lists add up to in totals.rt.
 // What a view means (document 01's rules, places, belonging and end of file) is in specs/.
+mod mode;
+mod totals;
+
 ghost use mathlib.Core.Path.{_≡_};
 ghost use Prim.Native.Nat.{_<_};
 ghost use lib.IntN.{pos};
 ghost use Rattle.view.specs.Types.{defaultView, whole};
-ghost use Rattle.view.specs.Numbers.{numbersOf};
 
 // An etype offset: a count of etypes from the beginning of the view. Offsets come in signed.
 pub struct Offset(pub i64);
@@ -17,42 +19,32 @@ pub type PerEntry = [u64; View::MAX_ETYPE_ENTRIES as usize];
 
 pub type PerInstance = [u64; View::MAX_INSTANCES as usize];
 
-// An etype: the first `entries` places of both lists, and the extent. Places past those mean nothing.
+// The numbers of an etype: how many entries it has, and its extent.
 pub struct Etype {
     pub entries: u64,
-    pub widths: PerEntry,
-    pub displacements: PerEntry,
     pub extent: u64,
 }
 
-// A filetype, built of the etype: instance i is the etype shifted by origin i. Places past `instances` mean nothing.
+// The numbers of a filetype: how many instances of the etype it has, and its extent.
 pub struct Filetype {
     pub instances: u64,
-    pub origins: PerInstance,
     pub extent: u64,
 }
 
-pub struct View {
+// The numbers of a view. A function that needs a view takes these by value and borrows the lists that it needs, so that no call copies a list.
+pub struct Numbers {
     pub displacement: u64,
     pub etype: Etype,
     pub filetype: Filetype,
 }
 
-// The numbers of a view, without its three lists. A function that needs a view takes these by value and borrows the lists that it needs, so that no call copies a list.
-pub struct Numbers {
-    pub displacement: u64,
-    pub etype: EtypeNumbers,
-    pub filetype: FiletypeNumbers,
-}
-
-pub struct EtypeNumbers {
-    pub entries: u64,
-    pub extent: u64,
-}
-
-pub struct FiletypeNumbers {
-    pub instances: u64,
-    pub extent: u64,
+// A view: its numbers, the widths and displacements of the etype's entries, and the origins of the filetype's instances.
+// Instance i is the etype shifted by origin i. Places of a list past its type's count mean nothing.
+pub struct View {
+    pub numbers: Numbers,
+    pub widths: PerEntry,
+    pub displacements: PerEntry,
+    pub origins: PerInstance,
 }
 
 // What the reverse lookup finds at a file byte: the pair of offset and index in the packed data, or none.
@@ -102,15 +94,6 @@ impl View {
 
     pub const MAX_FILE_SIZE: u64 = 1099511627776;
 
-    // The modes of an open: overlap is refused in a mode that allows writing. An open that names no mode has 0.
-    pub const MODE_UNNAMED: u64 = 0;
-
-    pub const MODE_READING: u64 = 1;
-
-    pub const MODE_WRITING: u64 = 2;
-
-    pub const MODE_BOTH: u64 = 3;
-
     // Document 01's refusal numbers, in its order.
     pub const REFUSED_HANDLE: u64 = 1;
 
@@ -151,35 +134,20 @@ impl View {
         let mut widths = [0u64; View::MAX_ETYPE_ENTRIES as usize];
         widths[0] = View::WIDTH_1;
         View {
-            displacement: 0,
-            etype: Etype {
-                entries: 1,
-                widths: widths,
-                displacements: [0u64; View::MAX_ETYPE_ENTRIES as usize],
-                extent: 1,
+            numbers: Numbers {
+                displacement: 0,
+                etype: Etype {
+                    entries: 1,
+                    extent: 1,
+                },
+                filetype: Filetype {
+                    instances: 1,
+                    extent: 1,
+                },
             },
-            filetype: Filetype {
-                instances: 1,
-                origins: [0u64; View::MAX_INSTANCES as usize],
-                extent: 1,
-            },
-        }
-    }
-
-    // The view's numbers. For our own crates.
-    pub fn numbers(self) -> Numbers
-        ensures { λ r. ⌜ r ≡ numbersOf self ⌝ }
-    {
-        Numbers {
-            displacement: self.displacement,
-            etype: EtypeNumbers {
-                entries: self.etype.entries,
-                extent: self.etype.extent,
-            },
-            filetype: FiletypeNumbers {
-                instances: self.filetype.instances,
-                extent: self.filetype.extent,
-            },
+            widths: widths,
+            displacements: [0u64; View::MAX_ETYPE_ENTRIES as usize],
+            origins: [0u64; View::MAX_INSTANCES as usize],
         }
     }
 }

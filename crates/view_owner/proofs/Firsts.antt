@@ -1,17 +1,5 @@
 -- Laws of `firstOwner`: what the loop over answers keeps and returns, the same as a search, and answers in runs.
-use Prim.Native.Nat.{ℕ, zero, suc, _+_, _*_, _≤_, _<_}
-use mathlib.Core.Bool.{Bool, true, false, cond, not}
-use mathlib.Core.Logic.{⊎-elim}
-use mathlib.Core.Path.{_≡_, refl, sym, ap, _∙_}
-use native.Mathlib.Nat.{add-zero, add-suc, eq-or-lt-of-le, zero-mul}
-use native.Mathlib.Numerals.{add-one}
-use native.Mathlib.Omega.{arith}
-use borrow.Author.Tests.{lt-ltb, le-ltb, not-true, not-false}
-use lib.Dec.{ltb}
-use Rattle.laws.specs.Search.{first}
-use Rattle.laws.proofs.Booleans.{lt-or-le}
-use Rattle.laws.proofs.Searching.{first-keeps, first-breaks}
-use Rattle.laws.proofs.Quotients.{times-more}
+use Rattle.laws.proofs.Prelude.{ℕ, zero, suc, _+_, _*_, _≤_, _<_, _≡_, refl, sym, ap, _∙_, Bool, true, false, cond, not, ⊎-elim, arith, add-zero, add-suc, eq-or-lt-of-le, zero-mul, add-one, ltb, lt-ltb, le-ltb, not-true, not-false, first, lt-or-le, first-keeps, first-breaks, times-more}
 use Rattle.view.specs.declared.Offset.{Offset}
 use Rattle.view.specs.declared.Owner.{Owner}
 use Rattle.view.specs.declared.Owner.the-variants.{Pair, Nobody}

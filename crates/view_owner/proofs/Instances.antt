@@ -1,15 +1,5 @@
 -- The entries of one instance tried in turn: no sum wraps, and the packed bytes before each are summed up.
-use Prim.Native.Nat.{ℕ, _+_, _≤_, _<_}
-use mathlib.Core.List.{List}
-use mathlib.Core.Path.{_≡_, refl, ap, _∙_}
-use native.Mathlib.Nat.{mul-le-mul}
-use native.Mathlib.Omega.{arith}
-use lib.ListN.{getD}
-use mir.Syntax.{w64}
-use mir.Val.{Fits}
-use Rattle.laws.specs.Lists.{nth}
-use Rattle.laws.specs.Search.{total}
-use Rattle.laws.proofs.Sums.{total-more, total-most}
+use Rattle.laws.proofs.Prelude.{ℕ, _+_, _≤_, _<_, _≡_, refl, ap, _∙_, List, arith, mul-le-mul, getD, w64, Fits, total, nth, total-more, total-most}
 use Rattle.view.specs.declared.Offset.{Offset}
 use Rattle.view.specs.declared.Owner.{Owner}
 use Rattle.view.specs.declared.Owner.the-variants.{Pair, Nobody}

@@ -1,13 +1,5 @@
 -- One entry tried: no step wraps, and each answer is what the definition says.
-use Prim.Native.Nat.{ℕ, _+_, _-_, _*_, _/_, _%_, _≤_, _<_}
-use mathlib.Core.Path.{_≡_, refl}
-use native.Mathlib.Nat.{mul-le-mul}
-use native.Mathlib.Omega.{arith}
-use borrow.Author.Tests.{lt-ltb, le-ltb, le-leb, lt-leb}
-use lib.IntN.{pos}
-use mir.Syntax.{w64}
-use mir.Val.{Fits}
-use Rattle.laws.proofs.Booleans.{also-true, also-first, also-false, cond-yes, cond-no}
+use Rattle.laws.proofs.Prelude.{ℕ, _+_, _-_, _*_, _/_, _%_, _≤_, _<_, _≡_, refl, arith, mul-le-mul, pos, w64, Fits, lt-ltb, le-ltb, le-leb, lt-leb, also-true, also-first, also-false, cond-yes, cond-no}
 use Rattle.view.specs.declared.Offset.{Offset}
 use Rattle.view.specs.declared.Owner.the-variants.{Pair, Nobody}
 use Rattle.view_owner.specs.Parts.{entryOwner, InstanceIn}

@@ -1,17 +1,5 @@
 -- All instances tried in turn: what is found on the record is what the definition of the reverse lookup says of the view on paper.
-use Prim.Native.Nat.{ℕ, _+_, _*_, _/_, _%_, _≤_, _<_}
-use mathlib.Core.Bool.{cond}
-use mathlib.Core.List.{List}
-use mathlib.Core.Path.{_≡_, sym, ap, _∙_}
-use native.Mathlib.Omega.{arith}
-use lib.IntN.{pos}
-use lib.ListN.{getD}
-use mir.Syntax.{w64}
-use mir.Val.{Fits}
-use Rattle.laws.specs.Lists.{nth}
-use Rattle.laws.specs.Search.{total}
-use Rattle.laws.proofs.Sums.{total-same}
-use Rattle.laws.proofs.Quotients.{run-div, run-mod, run-below}
+use Rattle.laws.proofs.Prelude.{ℕ, _+_, _*_, _/_, _%_, _≤_, _<_, _≡_, sym, ap, _∙_, cond, List, arith, getD, pos, w64, Fits, total, nth, run-div, run-mod, run-below, total-same}
 use Rattle.view.specs.declared.Offset.{Offset}
 use Rattle.view.specs.declared.Owner.{Owner}
 use Rattle.view.specs.declared.Owner.the-variants.{Pair, Nobody}
@@ -29,7 +17,7 @@ use Rattle.view_owner.proofs.Firsts.{first-runs, first-same, first-sear
 
 -- what instance g answers, on the record
 unfoldable pub ownerFrom : View → ℕ → ℕ → Owner
-ownerFrom v b g = instanceOwner (v .etype .entries) (v .etype .widths) (v .etype .displacements) (v .filetype .extent) (v .filetype .instances) g (v .displacement + nth (v .filetype .origins) g) b
+ownerFrom v b g = instanceOwner (v .numbers .etype .entries) (v .widths) (v .displacements) (v .numbers .filetype .extent) (v .numbers .filetype .instances) g (v .numbers .displacement + nth (v .origins) g) b
 
 -- ---- what the loop over instances needs
 
@@ -69,52 +57,52 @@ module _ (v : View) (k : Valid (paper v)) where
   searched b = first-searched (hits (paper v) b) (λ i. record { 0 = pos (offsetIn (paper v) b i) }) (indexIn (paper v) b) (entries (paper v .filetype))
 
   -- entry i of instance g
-  module _ (b g i : ℕ) (lg : g < v .filetype .instances) (li : i < v .etype .entries) where
-    place : g * v .etype .entries + i < v .filetype .instances * v .etype .entries
-    place = run-below (v .filetype .instances) (v .etype .entries) g i lg li
+  module _ (b g i : ℕ) (lg : g < v .numbers .filetype .instances) (li : i < v .numbers .etype .entries) where
+    place : g * v .numbers .etype .entries + i < v .numbers .filetype .instances * v .numbers .etype .entries
+    place = run-below (v .numbers .filetype .instances) (v .numbers .etype .entries) g i lg li
 
-    group : (g * v .etype .entries + i) / v .etype .entries ≡ g
-    group = run-div (v .etype .entries) g i li
+    group : (g * v .numbers .etype .entries + i) / v .numbers .etype .entries ≡ g
+    group = run-div (v .numbers .etype .entries) g i li
 
-    entry : (g * v .etype .entries + i) % v .etype .entries ≡ i
-    entry = run-mod (v .etype .entries) g i li
+    entry : (g * v .numbers .etype .entries + i) % v .numbers .etype .entries ≡ i
+    entry = run-mod (v .numbers .etype .entries) g i li
 
-    start-is : entryStart (paper v) (g * v .etype .entries + i) ≡ v .displacement + nth (v .filetype .origins) g + nth (v .etype .displacements) i
+    start-is : entryStart (paper v) (g * v .numbers .etype .entries + i) ≡ v .numbers .displacement + nth (v .origins) g + nth (v .displacements) i
     unfolding entryStart
-    start-is = rw (paper-file-displacement v (g * v .etype .entries + i) place, group, entry, paper-start v) (omega arith)
+    start-is = rw (paper-file-displacement v (g * v .numbers .etype .entries + i) place, group, entry, paper-start v) (omega arith)
 
-    width-is : widthAt (paper v .filetype) (g * v .etype .entries + i) ≡ nth (v .etype .widths) i
-    width-is = rw (paper-file-width v (g * v .etype .entries + i) place, entry)
+    width-is : widthAt (paper v .filetype) (g * v .numbers .etype .entries + i) ≡ nth (v .widths) i
+    width-is = rw (paper-file-width v (g * v .numbers .etype .entries + i) place, entry)
 
-    packed-is : packedBefore (paper v .etype) i ≡ total (nth (v .etype .widths)) i
+    packed-is : packedBefore (paper v .etype) i ≡ total (nth (v .widths)) i
     unfolding packedBefore
-    packed-is = total-same (widthAt (paper v .etype)) (nth (v .etype .widths)) i (λ j q. paper-width v j (omega arith))
+    packed-is = total-same (widthAt (paper v .etype)) (nth (v .widths)) i (λ j q. paper-width v j (omega arith))
 
-    entry-same : fileOwner b (g * v .etype .entries + i) ≡ ownerAt (v .etype .widths) (v .etype .displacements) (v .filetype .extent) (v .filetype .instances) g (v .displacement + nth (v .filetype .origins) g) b i
+    entry-same : fileOwner b (g * v .numbers .etype .entries + i) ≡ ownerAt (v .widths) (v .displacements) (v .numbers .filetype .extent) (v .numbers .filetype .instances) g (v .numbers .displacement + nth (v .origins) g) b i
     unfolding fileOwner hits offsetIn indexIn ownerAt entryOwner
     entry-same = rw (start-is, width-is, paper-file-extent v, paper-instances v (some-entry v k), paper-entries v, group, entry, packed-is)
 
-  pub owner-is : (b : ℕ) → firstOwner (ownerFrom v b) (v .filetype .instances) ≡ ownerOf (paper v) b
+  pub owner-is : (b : ℕ) → firstOwner (ownerFrom v b) (v .numbers .filetype .instances) ≡ ownerOf (paper v) b
   unfolding ownerFrom instanceOwner
   owner-is b =
-      first-same _ _ (v .filetype .instances) (λ g l. first-same _ _ (v .etype .entries) (λ i q. sym (entry-same b g i l q)))
-      ∙ sym (first-runs (fileOwner b) (v .filetype .instances) (v .etype .entries))
+      first-same _ _ (v .numbers .filetype .instances) (λ g l. first-same _ _ (v .numbers .etype .entries) (λ i q. sym (entry-same b g i l q)))
+      ∙ sym (first-runs (fileOwner b) (v .numbers .filetype .instances) (v .numbers .etype .entries))
       ∙ ap (firstOwner (fileOwner b)) (sym (paper-file-entries v))
       ∙ searched b
 
   -- ---- what the loop returns
 
-  module _ (b g : ℕ) (m : Missed (ownerFrom v b) g (v .filetype .instances)) where
-    pub lookup-end : v .filetype .instances ≤ g → Nobody ≡ ownerOf (paper v) b
-    lookup-end l = missed-end (ownerFrom v b) (v .filetype .instances) g m l ∙ owner-is b
+  module _ (b g : ℕ) (m : Missed (ownerFrom v b) g (v .numbers .filetype .instances)) where
+    pub lookup-end : v .numbers .filetype .instances ≤ g → Nobody ≡ ownerOf (paper v) b
+    lookup-end l = missed-end (ownerFrom v b) (v .numbers .filetype .instances) g m l ∙ owner-is b
 
-    module _ (l : g < v .filetype .instances) (r : Owner) (h : r ≡ instanceOwner (v .etype .entries) (v .etype .widths) (v .etype .displacements) (v .filetype .extent) (v .filetype .instances) g (v .displacement + getD (v .filetype .origins) g 0) b) where
+    module _ (l : g < v .numbers .filetype .instances) (r : Owner) (h : r ≡ instanceOwner (v .numbers .etype .entries) (v .widths) (v .displacements) (v .numbers .filetype .extent) (v .numbers .filetype .instances) g (v .numbers .displacement + getD (v .origins) g 0) b) where
       answered : r ≡ ownerFrom v b g
       unfolding ownerFrom
       answered = h
 
-      pub lookup-more : r ≡ Nobody → Missed (ownerFrom v b) (g + 1) (v .filetype .instances)
-      lookup-more q = missed-more (ownerFrom v b) (v .filetype .instances) g m l r answered q
+      pub lookup-more : r ≡ Nobody → Missed (ownerFrom v b) (g + 1) (v .numbers .filetype .instances)
+      lookup-more q = missed-more (ownerFrom v b) (v .numbers .filetype .instances) g m l r answered q
 
       pub lookup-stop : (x : Offset) (j : ℕ) → r ≡ Pair x j → r ≡ ownerOf (paper v) b
-      lookup-stop x j q = missed-stop (ownerFrom v b) (v .filetype .instances) g m l r answered x j q ∙ owner-is b
+      lookup-stop x j q = missed-stop (ownerFrom v b) (v .numbers .filetype .instances) g m l r answered x j q ∙ owner-is b

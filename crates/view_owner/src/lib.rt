@@ -16,32 +16,24 @@ use view::View;
 
 // The pair of byte `b` if it lies, in some tile, in an entry of instance `g`, or none.
 // In the first tile the entry begins at `start`; `packed` bytes stand before it in the packed data.
-fn owner_in_entry(
-    extent: u64,
-    instances: u64,
-    g: u64,
-    start: BytePos,
-    width: u64,
-    packed: u64,
-    b: BytePos,
-) -> Owner
-    requires { ⌜ InstanceIn extent instances g × (packed + width < 18446744073709551616) ⌝ }
-    ensures { λ r. ⌜ r ≡ entryOwner extent instances g (start .0) width packed (b .0) ⌝ }
+fn owner_in_entry(v: Numbers, g: u64, start: BytePos, width: u64, packed: u64, b: BytePos) -> Owner
+    requires { ⌜ InstanceIn (v .filetype .extent) (v .filetype .instances) g × (packed + width < 18446744073709551616) ⌝ }
+    ensures { λ r. ⌜ r ≡ entryOwner (v .filetype .extent) (v .filetype .instances) g (start .0) width packed (b .0) ⌝ }
 {
     if b.0 < start.0 {
         return Owner::Nobody;
     }
     let distance = b.0 - start.0;
-    let rest = distance % extent;
+    let rest = distance % v.filetype.extent;
     if width <= rest {
         return Owner::Nobody;
     }
-    let tile = distance / extent;
+    let tile = distance / v.filetype.extent;
     // Past this no offset of the tile is allowed, and the product below need not fit.
     if View::OFFSET_COUNT <= tile {
         return Owner::Nobody;
     }
-    let before = tile * instances;
+    let before = tile * v.filetype.instances;
     let offset = before + g;
     if View::OFFSET_COUNT <= offset {
         return Owner::Nobody;
@@ -52,25 +44,23 @@ fn owner_in_entry(
 
 // The pair of byte `b` if it lies, in some tile, in instance `g`, or none. In the first tile the instance begins at `begin`.
 fn owner_in_instance<'a>(
-    entries: u64,
+    v: Numbers,
     widths: &'a PerEntry,
     displacements: &'a PerEntry,
-    extent: u64,
-    instances: u64,
     g: u64,
     begin: BytePos,
     b: BytePos,
 ) -> Owner
-    requires { ⌜ InstanceValid entries (now widths) (now displacements) extent instances g (begin .0) ⌝ }
-    ensures { λ r. ⌜ r ≡ instanceOwner entries (now (widths .entry)) (now (displacements .entry)) extent instances g (begin .0) (b .0) ⌝ }
+    requires { ⌜ InstanceValid (v .etype .entries) (now widths) (now displacements) (v .filetype .extent) (v .filetype .instances) g (begin .0) ⌝ }
+    ensures { λ r. ⌜ r ≡ instanceOwner (v .etype .entries) (now (widths .entry)) (now (displacements .entry)) (v .filetype .extent) (v .filetype .instances) g (begin .0) (b .0) ⌝ }
 {
-    let n = entries as usize;
+    let n = v.etype.entries as usize;
     let mut packed = 0;
     let mut i = 0;
     while i < n {
         let width = widths[i];
         let start = begin.0 + displacements[i];
-        let owner = owner_in_entry(extent, instances, g, BytePos(start), width, packed, b);
+        let owner = owner_in_entry(v, g, BytePos(start), width, packed, b);
         if let Owner::Pair(_, _) = owner {
             return owner;
         }
@@ -94,16 +84,7 @@ pub fn owner_of<'a>(
     let mut g = 0;
     while g < v.filetype.instances {
         let begin = v.displacement + origins[g as usize];
-        let owner = owner_in_instance(
-            v.etype.entries,
-            widths,
-            displacements,
-            v.filetype.extent,
-            v.filetype.instances,
-            g,
-            BytePos(begin),
-            b,
-        );
+        let owner = owner_in_instance(v, widths, displacements, g, BytePos(begin), b);
         if let Owner::Pair(_, _) = owner {
             return owner;
         }

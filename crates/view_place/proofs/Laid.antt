@@ -1,19 +1,16 @@
 -- A valid view: its numbers and origins keep the limits that places ask for, and what is said of them here is what document 01 says of the view.
-use Prim.Native.Nat.{ℕ}
-use mathlib.Core.Path.{_≡_, sym}
-use Rattle.laws.proofs.Sums.{greatest-same}
+use Rattle.laws.proofs.Prelude.{ℕ, _≡_, sym, greatest-same}
 use Rattle.view.specs.declared.View.{View}
 use Rattle.view.specs.Types.{paper}
 use Rattle.view.specs.Rules.{Valid}
 use Rattle.view.specs.Places.{place}
 use Rattle.view.specs.End.{endOfFile}
-use Rattle.view.specs.Numbers.{numbersOf}
 use Rattle.view.proofs.Paper.{paper-instances, paper-origin, paper-place, paper-file-extent, paper-start}
 use Rattle.view.proofs.Held.{start-small, some-entry, record-some, record-few, record-extent, extent-small, record-origin}
 use Rattle.view_place.specs.Spots.{Tiled, OriginsLow, placeOn, endAt, endOn}
 
 module _ (v : View) (k : Valid (paper v)) where
-  pub tiled : Tiled (numbersOf v)
+  pub tiled : Tiled (v .numbers)
   tiled = record {
     start = start-small v k;
     some = record-some v k;
@@ -22,15 +19,15 @@ module _ (v : View) (k : Valid (paper v)) where
     small = extent-small v k;
   }
 
-  pub origins-low : OriginsLow (numbersOf v) (v .filetype .origins)
+  pub origins-low : OriginsLow (v .numbers) (v .origins)
   origins-low = record { origin = record-origin v k }
 
-  pub place-is : (x : ℕ) → placeOn (numbersOf v) (v .filetype .origins) x ≡ place (paper v) x
+  pub place-is : (x : ℕ) → placeOn (v .numbers) (v .origins) x ≡ place (paper v) x
   unfolding placeOn
   place-is x = sym (paper-place v (some-entry v k) (record-some v k) x)
 
-  pub end-is : (size : ℕ) → endOn (numbersOf v) (v .filetype .origins) size ≡ endOfFile (paper v) size
+  pub end-is : (size : ℕ) → endOn (v .numbers) (v .origins) size ≡ endOfFile (paper v) size
   unfolding endOn endAt endOfFile
   end-is size =
       rw (paper-instances v (some-entry v k), paper-start v, paper-file-extent v)
-      (greatest-same _ _ (v .filetype .instances) (λ i l. rw (paper-origin v (some-entry v k) i l)))
+      (greatest-same _ _ (v .numbers .filetype .instances) (λ i l. rw (paper-origin v (some-entry v k) i l)))

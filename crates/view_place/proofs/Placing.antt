@@ -1,21 +1,5 @@
 -- No step on the way to a place or to an end of file wraps, and each step leads where the definitions on numbers say.
-use Prim.Native.Nat.{ℕ, _+_, _-_, _*_, _/_, _%_, _≤_, _<_}
-use mathlib.Core.Bool.{true}
-use mathlib.Core.List.{List}
-use mathlib.Core.Logic.{⊎-elim}
-use mathlib.Core.Path.{_≡_, refl, ap, _∙_}
-use native.Mathlib.Nat.{mul-le-mul, div-le-self, mod-lt}
-use native.Mathlib.Omega.{arith}
-use borrow.Author.Tests.{ltb-true, lt-ltb, le-ltb}
-use lib.IntN.{ℤ, pos, negsuc}
-use lib.ListN.{getD}
-use mir.Syntax.{w64}
-use mir.Val.{Fits, toZ, ofZ}
-use mir.Facts.{toZ-ofZ}
-use Rattle.laws.specs.Lists.{nth}
-use Rattle.laws.proofs.Sums.{Highest, highest-end, greatest-least}
-use Rattle.laws.proofs.Booleans.{not-both, lt-or-le}
-use Rattle.laws.proofs.Quotients.{next-in, next-over, times-more}
+use Rattle.laws.proofs.Prelude.{ℕ, _+_, _-_, _*_, _/_, _%_, _≤_, _<_, _≡_, refl, ap, _∙_, true, List, ⊎-elim, arith, mul-le-mul, div-le-self, mod-lt, getD, ℤ, pos, negsuc, w64, Fits, toZ, ofZ, toZ-ofZ, ltb-true, lt-ltb, le-ltb, nth, not-both, lt-or-le, next-in, next-over, times-more, Highest, highest-end, greatest-least}
 use Rattle.view.specs.declared.Numbers.{Numbers}
 use Rattle.view.specs.Limits.{offsetAllowed}
 use Rattle.view.specs.Types.{whole}
@@ -169,11 +153,6 @@ module _ (v : Numbers) (k : Tiled v) where
             (λ q. rw (lt-ltb (v .displacement + nth ps i) size q) (omega (arith, before size (v .displacement + nth ps i) (v .filetype .extent) (v .filetype .instances) i hs (k .few) l, k .few)))
             (λ q. rw (le-ltb (v .displacement + nth ps i) size q) (omega arith))
             (lt-or-le (v .displacement + nth ps i) size)
-
-        -- end of file fits a signed number
-        pub end-bound : endOn v ps size < 9223372036854775808
-        unfolding endOn
-        end-bound = let b = greatest-least (endAt v ps size) (v .filetype .instances) 70368744177729 end-small in omega arith
 
         pub end-signed : (i e : ℕ) → Highest (endAt v ps size) i (v .filetype .instances) e → e < 9223372036854775808
         end-signed i e h =

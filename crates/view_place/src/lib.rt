@@ -10,6 +10,7 @@ ghost use Rattle.view.specs.Types.{whole};
 ghost use Rattle.view.specs.End.{endFrom};
 ghost use Rattle.view_place.specs.Spots.{Tiled, OriginsLow, spotAt, nextSpot, SpotValid, placeOn, endOn};
 use view::BytePos;
+use view::Filetype;
 use view::Numbers;
 use view::Offset;
 use view::PerInstance;
@@ -38,19 +39,19 @@ pub fn spot_of(v: Numbers, o: Offset) -> Spot
 }
 
 // The spot of the offset after that of `s`, with no division. For our own crates.
-pub fn next_spot(s: Spot, instances: u64, extent: u64) -> Spot
-    requires { ⌜ (s .instance < maxInstances) × (s .tile .0 + extent < 18446744073709551616) ⌝ }
-    ensures { λ r. ⌜ r ≡ nextSpot s instances extent ⌝ }
+pub fn next_spot(s: Spot, f: Filetype) -> Spot
+    requires { ⌜ (s .instance < maxInstances) × (s .tile .0 + f .extent < 18446744073709551616) ⌝ }
+    ensures { λ r. ⌜ r ≡ nextSpot s (f .instances) (f .extent) ⌝ }
 {
     let tile = s.tile;
     let next = s.instance + 1;
-    if next < instances {
+    if next < f.instances {
         return Spot {
             tile: tile,
             instance: next,
         };
     }
-    let after = tile.0 + extent;
+    let after = tile.0 + f.extent;
     Spot {
         tile: BytePos(after),
         instance: 0,
@@ -77,14 +78,14 @@ pub fn place_of(v: Numbers, origins: &PerInstance, o: Offset) -> BytePos
 }
 
 // One past the last offset that is instance `i` of its tile and begins below `size`, or 0.
-fn end_from(start: u64, size: u64, extent: u64, instances: u64, i: u64) -> u64
-    requires { ⌜ (size ≤ maxFileLength) × (instances ≤ maxInstances) × (i < instances) × (0 < extent) ⌝ }
-    ensures { λ r. ⌜ r ≡ endFrom start size extent instances i ⌝ }
+fn end_from(start: BytePos, size: u64, f: Filetype, i: u64) -> u64
+    requires { ⌜ (size ≤ maxFileLength) × (f .instances ≤ maxInstances) × (i < f .instances) × (0 < f .extent) ⌝ }
+    ensures { λ r. ⌜ r ≡ endFrom (start .0) size (f .extent) (f .instances) i ⌝ }
 {
-    if start < size {
-        let room = size - start - 1;
-        let tile = room / extent;
-        let before = tile * instances;
+    if start.0 < size {
+        let room = size - start.0 - 1;
+        let tile = room / f.extent;
+        let before = tile * f.instances;
         let last = before + i;
         last + 1
     } else {
@@ -97,13 +98,11 @@ pub fn end_of(v: Numbers, origins: &PerInstance, size: u64) -> Offset
     requires { ⌜ Tiled v × OriginsLow v (now origins) × (size ≤ maxFileLength) ⌝ }
     ensures { λ r. ⌜ r .0 ≡ pos (endOn v (now (origins .entry)) size) ⌝ }
 {
-    let instances = v.filetype.instances;
-    let extent = v.filetype.extent;
     let mut end = 0;
     let mut i = 0;
-    while i < instances {
+    while i < v.filetype.instances {
         let start = v.displacement + origins[i as usize];
-        let one = end_from(start, size, extent, instances, i);
+        let one = end_from(BytePos(start), size, v.filetype, i);
         end = laws::larger(end, one);
         i += 1;
     }

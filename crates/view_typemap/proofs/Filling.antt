@@ -1,17 +1,5 @@
 -- How the loops go from entry to entry and group to group, and what they store.
-use Prim.Native.Nat.{ℕ, _+_, _*_, _/_, _%_, _≤_, _<_}
-use mathlib.Core.List.{List}
-use mathlib.Core.Logic.{⊎-elim}
-use mathlib.Core.Path.{_≡_, sym, ap, _∙_}
-use native.Mathlib.Nat.{mod-lt, mod-self, div-self, mod-eq-of-lt, div-eq-of-lt, zero-mod, zero-div}
-use native.Mathlib.Omega.{arith}
-use lib.IntN.{ℤ, pos}
-use lib.ListN.{getD}
-use mir.Syntax.{w64}
-use mir.Val.{Fits, toZ, ofZ}
-use mir.Facts.{toZ-pos}
-use Rattle.laws.proofs.Booleans.{lt-or-le}
-use Rattle.laws.proofs.Quotients.{next-in, next-over, runs-below}
+use Rattle.laws.proofs.Prelude.{ℕ, _+_, _*_, _/_, _%_, _≤_, _<_, _≡_, sym, ap, _∙_, List, ⊎-elim, arith, mod-lt, mod-self, div-self, mod-eq-of-lt, div-eq-of-lt, zero-mod, zero-div, getD, ℤ, pos, w64, Fits, toZ, ofZ, toZ-pos, lt-or-le, next-in, next-over, runs-below}
 use Rattle.view_typemap.specs.Parts.{groupWidth, groupDisplacement, Room, Signed}
 
 -- ---- one step

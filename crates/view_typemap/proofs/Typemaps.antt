@@ -1,14 +1,5 @@
 -- The typemaps that the lists of a valid view's record make are those of the view on paper.
-use Prim.Native.Nat.{ℕ, _+_, _*_, _≤_}
-use mathlib.Core.List.{List}
-use mathlib.Core.Path.{_≡_, refl, sym, ap, _∙_}
-use native.Mathlib.Nat.{mod-eq-of-lt, div-eq-of-lt, one-mul}
-use native.Mathlib.Omega.{arith}
-use lib.IntN.{ℤ, pos}
-use lib.ListN.{replicate}
-use Rattle.laws.specs.Lists.{front}
-use Rattle.laws.proofs.Stores.{store-same}
-use Rattle.laws.proofs.Quotients.{run-below, run-div, run-mod}
+use Rattle.laws.proofs.Prelude.{ℕ, _+_, _*_, _≤_, _≡_, refl, sym, ap, _∙_, List, arith, mod-eq-of-lt, div-eq-of-lt, one-mul, replicate, ℤ, pos, front, run-below, run-div, run-mod, store-same}
 use Rattle.view.specs.declared.View.{View}
 use Rattle.view.specs.declared.Numbers.{Numbers}
 use Rattle.view.specs.Types.{paper, entries, widthAt, displacementAt}
@@ -57,20 +48,20 @@ module _ (v : Numbers) (ws ds ps : List ℕ) (valid : Valid (paper (viewWith v w
 -- ---- what they store
 
 module _ (v : View) (valid : Valid (paper v)) where
-  pub etype-widths-are : (l l' : List ℕ) → l' ≡ front (groupWidth (v .etype .widths) (v .etype .entries)) (1 * v .etype .entries) l → l' ≡ front (widthAt (paper v .etype)) (entries (paper v .etype)) l
+  pub etype-widths-are : (l l' : List ℕ) → l' ≡ front (groupWidth (v .widths) (v .numbers .etype .entries)) (1 * v .numbers .etype .entries) l → l' ≡ front (widthAt (paper v .etype)) (entries (paper v .etype)) l
   unfolding groupWidth
   etype-widths-are l l' q =
-      rw (paper-entries v) (rw (one-mul (v .etype .entries)) at q ∙ store-same _ _ _ _ (v .etype .entries) l (λ i h. refl) (λ i h. rw (mod-eq-of-lt h) (sym (paper-width v i h))))
+      rw (paper-entries v) (rw (one-mul (v .numbers .etype .entries)) at q ∙ store-same _ _ _ _ (v .numbers .etype .entries) l (λ i h. refl) (λ i h. rw (mod-eq-of-lt h) (sym (paper-width v i h))))
 
-  pub etype-displacements-are : (l l' : List ℤ) → l' ≡ front (groupDisplacement (replicate 64 0) (v .etype .displacements) (v .etype .entries)) (1 * v .etype .entries) l → l' ≡ front (λ i. pos (displacementAt (paper v .etype) i)) (entries (paper v .etype)) l
+  pub etype-displacements-are : (l l' : List ℤ) → l' ≡ front (groupDisplacement (replicate 64 0) (v .displacements) (v .numbers .etype .entries)) (1 * v .numbers .etype .entries) l → l' ≡ front (λ i. pos (displacementAt (paper v .etype) i)) (entries (paper v .etype)) l
   unfolding groupDisplacement
   etype-displacements-are l l' q =
-      rw (paper-entries v) (rw (one-mul (v .etype .entries)) at q ∙ store-same _ _ _ _ (v .etype .entries) l (λ i h. refl) (λ i h. rw (mod-eq-of-lt h, div-eq-of-lt h) (ap pos (omega (arith, paper-displacement v i h)))))
+      rw (paper-entries v) (rw (one-mul (v .numbers .etype .entries)) at q ∙ store-same _ _ _ _ (v .numbers .etype .entries) l (λ i h. refl) (λ i h. rw (mod-eq-of-lt h, div-eq-of-lt h) (ap pos (omega (arith, paper-displacement v i h)))))
 
-  pub filetype-widths-are : (l l' : List ℕ) → l' ≡ front (groupWidth (v .etype .widths) (v .etype .entries)) (v .filetype .instances * v .etype .entries) l → l' ≡ front (widthAt (paper v .filetype)) (entries (paper v .filetype)) l
+  pub filetype-widths-are : (l l' : List ℕ) → l' ≡ front (groupWidth (v .widths) (v .numbers .etype .entries)) (v .numbers .filetype .instances * v .numbers .etype .entries) l → l' ≡ front (widthAt (paper v .filetype)) (entries (paper v .filetype)) l
   unfolding groupWidth
-  filetype-widths-are l l' q = rw (paper-file-entries v) (q ∙ store-same _ _ _ _ (v .filetype .instances * v .etype .entries) l (λ i h. refl) (λ i h. sym (paper-file-width v i h)))
+  filetype-widths-are l l' q = rw (paper-file-entries v) (q ∙ store-same _ _ _ _ (v .numbers .filetype .instances * v .numbers .etype .entries) l (λ i h. refl) (λ i h. sym (paper-file-width v i h)))
 
-  pub filetype-displacements-are : (l l' : List ℤ) → l' ≡ front (groupDisplacement (v .filetype .origins) (v .etype .displacements) (v .etype .entries)) (v .filetype .instances * v .etype .entries) l → l' ≡ front (λ i. pos (displacementAt (paper v .filetype) i)) (entries (paper v .filetype)) l
+  pub filetype-displacements-are : (l l' : List ℤ) → l' ≡ front (groupDisplacement (v .origins) (v .displacements) (v .numbers .etype .entries)) (v .numbers .filetype .instances * v .numbers .etype .entries) l → l' ≡ front (λ i. pos (displacementAt (paper v .filetype) i)) (entries (paper v .filetype)) l
   unfolding groupDisplacement
-  filetype-displacements-are l l' q = rw (paper-file-entries v) (q ∙ store-same _ _ _ _ (v .filetype .instances * v .etype .entries) l (λ i h. refl) (λ i h. ap pos (sym (paper-file-displacement v i h))))
+  filetype-displacements-are l l' q = rw (paper-file-entries v) (q ∙ store-same _ _ _ _ (v .numbers .filetype .instances * v .numbers .etype .entries) l (λ i h. refl) (λ i h. ap pos (sym (paper-file-displacement v i h))))

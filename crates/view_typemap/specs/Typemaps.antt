@@ -4,8 +4,9 @@ use mathlib.Core.List.{List}
 use mathlib.Core.Path.{_≡_}
 use lib.IntN.{ℤ, pos}
 use lib.ListN.{length}
+use Rattle.laws.specs.Checks.{granted}
 use Rattle.laws.specs.Lists.{front}
-use Rattle.view.specs.Types.{PaperView, entries, widthAt, displacementAt}
+use Rattle.view.specs.Types.{PaperType, PaperView, entries, widthAt, displacementAt}
 use Rattle.view.specs.Rules.{Valid}
 
 -- the view is valid, and each list is at least as long as its own type's entry count
@@ -22,3 +23,10 @@ pub record TypemapsFilled (v : PaperView) (ew ew' : List ℕ) (ed ed' : List ℤ
   pub etype-displacements : ed' ≡ front (λ i. pos (displacementAt (v .etype) i)) (entries (v .etype)) ed
   pub filetype-widths : fw' ≡ front (widthAt (v .filetype)) (entries (v .filetype)) fw
   pub filetype-displacements : fd' ≡ front (λ i. pos (displacementAt (v .filetype) i)) (entries (v .filetype)) fd
+
+-- a lent list of widths, and one of displacements, after a call with refusal number n; what lies after the used places stays
+unfoldable pub widthsFilled : ℕ → PaperType → List ℕ → List ℕ
+widthsFilled n t l = granted n (front (widthAt t) (entries t) l) l
+
+unfoldable pub displacementsFilled : ℕ → PaperType → List ℤ → List ℤ
+displacementsFilled n t l = granted n (front (λ i. pos (displacementAt t i)) (entries t) l) l

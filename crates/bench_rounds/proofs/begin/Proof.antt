@@ -4,12 +4,9 @@ use Rattle.bench_rounds.proofs.Making.{after-set-is}
 use Rattle.bench_rounds.proofs.begin.Statement.{statement}
 use Rattle.bench_rounds.proofs.begin.Tie as tie
 
-returns : tie.Need-returns
-returns c = search after-set-is
-
 pub begin-spec : {M : Type 1} → statement M
 begin-spec =
     tie.close
     (tie.spec
     (λ c κs. search needs)
-    returns)
+    (λ c. search after-set-is))

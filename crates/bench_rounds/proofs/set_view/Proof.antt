@@ -1,23 +1,9 @@
 -- `set_view` decodes each list into the front of an array and lends this front. Assumes nothing.
-use mathlib.Core.Path.{sym}
-use lib.Seq.{length-take-le}
-use borrow.Author.Needs.{needs}
+use Rattle.laws.proofs.Prelude.{sym, length-take-le, needs}
 use Rattle.tagged_fields.proofs.Bytes.{bytes-rest}
 use Rattle.bench_rounds.proofs.Setting.{set-view-is}
 use Rattle.bench_rounds.proofs.set_view.Statement.{statement}
 use Rattle.bench_rounds.proofs.set_view.Tie as tie
-
-slice-aggregate-set-lists : tie.Need-slice-aggregate-set-lists
-slice-aggregate-set-lists c = sym (length-take-le _ _ (search needs))
-
-slice-aggregate-set-lists-2 : tie.Need-slice-aggregate-set-lists-2
-slice-aggregate-set-lists-2 c = sym (length-take-le _ _ (search needs))
-
-slice-aggregate-set-lists-3 : tie.Need-slice-aggregate-set-lists-3
-slice-aggregate-set-lists-3 c = sym (length-take-le _ _ (search needs))
-
-slice-aggregate-set-lists-4 : tie.Need-slice-aggregate-set-lists-4
-slice-aggregate-set-lists-4 c = sym (length-take-le _ _ (search needs))
 
 returns : tie.Need-returns
 returns c =
@@ -54,12 +40,12 @@ set-view-spec =
     (λ c. search needs)
     (λ c κs. search needs)
     (λ c. search needs)
-    slice-aggregate-set-lists
+    (λ c. sym (length-take-le _ _ (search needs)))
     (λ c. search needs)
-    slice-aggregate-set-lists-2
+    (λ c. sym (length-take-le _ _ (search needs)))
     (λ c. search needs)
-    slice-aggregate-set-lists-3
+    (λ c. sym (length-take-le _ _ (search needs)))
     (λ c. search needs)
-    slice-aggregate-set-lists-4
+    (λ c. sym (length-take-le _ _ (search needs)))
     (λ c κs. search needs)
     returns)

@@ -4,9 +4,6 @@ use borrow.Author.Needs.{needs}
 use Rattle.checksum.proofs.feed.Statement.{statement}
 use Rattle.checksum.proofs.feed.Tie as tie
 
-returns : tie.Need-returns
-returns c = feed-is _ _
-
 pub feed-spec : {M : Type 1} → statement M
 feed-spec =
     tie.close
@@ -14,4 +11,4 @@ feed-spec =
     (λ c. search needs)
     (λ c. search needs)
     (λ c. search needs)
-    returns)
+    (λ c. feed-is _ _))

@@ -1,6 +1,5 @@
 -- `write_end` takes the greatest end of the last offsets, one for each instance at most; together they end where the write does. Assumes nothing.
-use Prim.Native.Nat.{_-_}
-use borrow.Author.Needs.{needs}
+use Rattle.laws.proofs.Prelude.{_-_, needs}
 use Rattle.view.specs.Numbers.{viewWith}
 use Rattle.move_read.proofs.Etypes.{entries-valid}
 use Rattle.move_read.proofs.Walking.{walk-fits, walk-held, lent-tiled, lent-valid, lent-step}
@@ -17,8 +16,8 @@ abbrev μ-loop : tie.MeasureT-loop
 returns : tie.Need-returns Inv-loop μ-loop
 returns c = search end-none
 
-reach-of-requires : tie.Need-reach-of-requires Inv-loop μ-loop
-reach-of-requires c κs = search entries-valid
+reach-requires : tie.Need-reach-requires Inv-loop μ-loop
+reach-requires c κs = search entries-valid
 
 sub-skipped : tie.Need-sub-skipped Inv-loop μ-loop
 sub-skipped c = search (needs, tail-few)
@@ -63,7 +62,7 @@ write-end-spec =
     Inv-loop
     μ-loop
     returns
-    reach-of-requires
+    reach-requires
     (λ c κs. tt)
     sub-skipped
     (λ c κs. tt)

@@ -1,8 +1,7 @@
 -- `gather` copies each etype that lies in the file and stops at the first that does not. Assumes nothing.
-use Prim.Native.Nat.{_-_}
-use borrow.Author.Needs.{needs}
+use Rattle.laws.proofs.Prelude.{_-_, needs}
 use Rattle.view.specs.Numbers.{viewWith}
-use Rattle.move_etype.proofs.Copying.{widths-valid}
+use Rattle.view.proofs.Etypes.{widths-valid}
 use Rattle.move_read.proofs.Etypes.{entries-valid}
 use Rattle.move_read.proofs.Gathering.{Gathering, move-none, gathering-none, gather-all, gather-end-fits, gather-stop, from-fits, from-inside, gather-lies, gather-more}
 use Rattle.move_read.proofs.Walking.{walk-fits, walk-held, move-offset, last-fits, lent-tiled, lent-valid, lent-step}
@@ -10,10 +9,10 @@ use Rattle.move_read.proofs.gather.Statement.{statement}
 use Rattle.move_read.proofs.gather.Tie as tie
 
 abbrev Inv-loop : tie.InvT-loop
-Inv-loop v widths displacements origins file size count buf₀ n packed reach first last spot₀ x₀ buf spot x = Gathering (viewWith v widths displacements origins) file size first count packed reach buf₀ buf x spot
+Inv-loop v widths displacements origins file buf₀ count size packed reach first last spot₀ x₀ buf spot x = Gathering (viewWith v widths displacements origins) file size first count packed reach buf₀ buf x spot
 
 abbrev μ-loop : tie.MeasureT-loop
-μ-loop v widths displacements origins file size count buf₀ n packed reach first last spot₀ x₀ buf spot x = last - x
+μ-loop v widths displacements origins file buf₀ count size packed reach first last spot₀ x₀ buf spot x = last - x
 
 returns : tie.Need-returns Inv-loop μ-loop
 returns c = search move-none
@@ -21,8 +20,8 @@ returns c = search move-none
 data-size-requires : tie.Need-data-size-requires Inv-loop μ-loop
 data-size-requires c κs = search (widths-valid, entries-valid)
 
-reach-of-requires : tie.Need-reach-of-requires Inv-loop μ-loop
-reach-of-requires c κs = search entries-valid
+reach-requires : tie.Need-reach-requires Inv-loop μ-loop
+reach-requires c κs = search entries-valid
 
 add-last : tie.Need-add-last Inv-loop μ-loop
 add-last c = search last-fits
@@ -74,7 +73,7 @@ gather-spec =
     μ-loop
     returns
     data-size-requires
-    reach-of-requires
+    reach-requires
     (λ c κs. tt)
     add-last
     spot-of-requires

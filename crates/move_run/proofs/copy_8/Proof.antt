@@ -4,9 +4,6 @@ use Rattle.move_run.proofs.Running.{run-twice}
 use Rattle.move_run.proofs.copy_8.Statement.{statement}
 use Rattle.move_run.proofs.copy_8.Tie as tie
 
-returns : tie.Need-returns
-returns c = search run-twice
-
 pub copy-8-spec : {M : Type 1} → statement M
 copy-8-spec =
     tie.close
@@ -16,4 +13,4 @@ copy-8-spec =
     (λ c. search needs)
     (λ c κs. search needs)
     (λ c. search needs)
-    returns)
+    (λ c. search run-twice))

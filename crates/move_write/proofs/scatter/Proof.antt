@@ -1,8 +1,7 @@
 -- `scatter` stores each etype's data at its place; the etype lies in the file, as the write's end does. Assumes nothing.
-use Prim.Native.Nat.{_-_}
-use borrow.Author.Needs.{needs}
+use Rattle.laws.proofs.Prelude.{_-_, needs}
 use Rattle.view.specs.Numbers.{viewWith}
-use Rattle.move_etype.proofs.Copying.{widths-valid}
+use Rattle.view.proofs.Etypes.{widths-valid}
 use Rattle.move_read.proofs.Etypes.{entries-valid}
 use Rattle.move_read.proofs.Walking.{walk-fits, walk-held, move-offset, last-fits, lent-tiled, lent-valid, lent-step}
 use Rattle.move_write.proofs.Scattering.{Scattering, scatter-none, scattering-none, scatter-all, from-fits, from-inside, scatter-lies, scatter-more}
@@ -10,10 +9,10 @@ use Rattle.move_write.proofs.scatter.Statement.{statement}
 use Rattle.move_write.proofs.scatter.Tie as tie
 
 abbrev Inv-loop : tie.InvT-loop
-Inv-loop v widths displacements origins file₀ count buf n packed first last spot₀ x₀ file spot x = Scattering (viewWith v widths displacements origins) buf first count packed file₀ file x spot
+Inv-loop v widths displacements origins file₀ buf count packed first last spot₀ x₀ file spot x = Scattering (viewWith v widths displacements origins) buf first count packed file₀ file x spot
 
 abbrev μ-loop : tie.MeasureT-loop
-μ-loop v widths displacements origins file₀ count buf n packed first last spot₀ x₀ file spot x = last - x
+μ-loop v widths displacements origins file₀ buf count packed first last spot₀ x₀ file spot x = last - x
 
 returns : tie.Need-returns Inv-loop μ-loop
 returns c = search scatter-none

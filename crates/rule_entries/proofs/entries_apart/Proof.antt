@@ -1,9 +1,8 @@
 -- `entries_apart` passes the entries in order and leaves at the first that ends past the next one's beginning. Assumes nothing.
-use Prim.Native.Nat.{_-_}
-use Rattle.laws.proofs.Searching.{Passed, passed-fails, passed-holds, passed-more, passed-none}
-use Rattle.rule_entries.specs.Parts.{apartAt, EntriesValid}
+use Rattle.laws.proofs.Prelude.{_-_, needs, Passed, passed-fails, passed-holds, passed-more, passed-none}
+use Rattle.view.specs.Etypes.{EntriesValid}
+use Rattle.rule_entries.specs.Parts.{apartAt}
 use Rattle.rule_entries.proofs.Fitting.{apart-false, apart-fits, apart-true}
-use borrow.Author.Needs.{needs}
 use Rattle.rule_entries.proofs.entries_apart.Statement.{statement}
 use Rattle.rule_entries.proofs.entries_apart.Tie as tie
 

@@ -1,9 +1,7 @@
 -- `entries_fit` passes the entries in order and leaves at the first that breaks the rule. Assumes nothing.
-use Prim.Native.Nat.{_-_}
-use Rattle.laws.proofs.Searching.{Passed, passed-fails, passed-holds, passed-more, passed-none}
+use Rattle.laws.proofs.Prelude.{_-_, needs, Passed, passed-fails, passed-holds, passed-more, passed-none}
 use Rattle.rule_entries.specs.Parts.{entryFitsAt}
 use Rattle.rule_entries.proofs.Fitting.{entry-false, entry-true}
-use borrow.Author.Needs.{needs}
 use Rattle.rule_entries.proofs.entries_fit.Statement.{statement}
 use Rattle.rule_entries.proofs.entries_fit.Tie as tie
 

@@ -1,6 +1,5 @@
 -- `entry_matches` follows the definition; the shift is compared by a difference, which cannot wrap. Assumes nothing.
-use borrow.Author.Tests.{eq-eqb, ne-eqb, le-leb, lt-leb}
-use Rattle.laws.proofs.Booleans.{also-yes, also-no}
+use Rattle.laws.proofs.Prelude.{eq-eqb, ne-eqb, le-leb, lt-leb, also-yes, also-no}
 use Rattle.rule_groups.specs.Parts.{entryShifted}
 use Rattle.rule_groups.proofs.Building.{shift-low, shift-is}
 use Rattle.rule_groups.proofs.entry_matches.Statement.{statement}

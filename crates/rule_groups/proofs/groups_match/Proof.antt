@@ -1,20 +1,15 @@
 -- `groups_match` passes the filetype's entries in order and leaves at the first that is not the etype's, shifted. Assumes nothing.
-use Prim.Native.Nat.{_-_, _%_, _≤_, _<_}
-use mathlib.Core.Path.{_≡_}
-use native.Mathlib.Omega.{arith}
-use borrow.Author.Needs.{scaled-fits}
-use lib.ListN.{length}
-use Rattle.laws.proofs.Searching.{Passed, passed-more, passed-none}
+use Rattle.laws.proofs.Prelude.{_-_, _%_, _≤_, _<_, _≡_, arith, length, scaled-fits, Passed, passed-none}
 use Rattle.rule_groups.specs.Parts.{entryMatches}
-use Rattle.rule_groups.proofs.Building.{begin-pairs, built-yes, groups-uneven, entry-in, begin-fits, entry-scaled, groups-fail, built-no, groups-hold}
+use Rattle.rule_groups.proofs.Building.{begin-pairs, groups-more, groups-uneven, entry-in, begin-fits, entry-scaled, groups-fail, built-no, groups-hold}
 use Rattle.rule_groups.proofs.groups_match.Statement.{statement}
 use Rattle.rule_groups.proofs.groups_match.Tie as tie
 
 abbrev Inv-loop : tie.InvT-loop
-Inv-loop fw fd n widths displacements i₀ i = (0 < n) × (n ≤ 8) × (length fd ≡ length fw) × (length fw % n ≡ 0) × Passed (entryMatches widths displacements n fw fd) i (length fw)
+Inv-loop widths displacements fw fd n i₀ i = (0 < n) × (n ≤ 8) × (length fd ≡ length fw) × (length fw % n ≡ 0) × Passed (entryMatches widths displacements n fw fd) i (length fw)
 
 abbrev μ-loop : tie.MeasureT-loop
-μ-loop fw fd n widths displacements i₀ i = length fw - i
+μ-loop widths displacements fw fd n i₀ i = length fw - i
 
 returns : tie.Need-returns Inv-loop μ-loop
 returns c = search groups-uneven
@@ -28,14 +23,14 @@ mul-begin c = search begin-fits
 mul-entry-matches-3 : tie.Need-mul-entry-matches-3 Inv-loop μ-loop
 mul-entry-matches-3 c = search (entry-scaled, entry-in)
 
-array-read-entry-matches : tie.Need-array-read-entry-matches Inv-loop μ-loop
-array-read-entry-matches c = search entry-in
+element-copy-out-entry-matches : tie.Need-element-copy-out-entry-matches Inv-loop μ-loop
+element-copy-out-entry-matches c = search entry-in
 
 mul-entry-matches-4 : tie.Need-mul-entry-matches-4 Inv-loop μ-loop
 mul-entry-matches-4 c = search (entry-scaled, entry-in)
 
-array-read-entry-matches-2 : tie.Need-array-read-entry-matches-2 Inv-loop μ-loop
-array-read-entry-matches-2 c = search entry-in
+element-copy-out-entry-matches-2 : tie.Need-element-copy-out-entry-matches-2 Inv-loop μ-loop
+element-copy-out-entry-matches-2 c = search entry-in
 
 mul-entry-matches-5 : tie.Need-mul-entry-matches-5 Inv-loop μ-loop
 mul-entry-matches-5 c = search (scaled-fits, begin-pairs)
@@ -48,9 +43,9 @@ returns-2 c = search (groups-fail, built-no)
 
 loop-again : tie.Need-loop-again Inv-loop μ-loop
 loop-again c =
-    let v = c .before .before .before .before .before .before .loop .inv in
-    let l = c .before .before .before .before .before .loop-test .taken in
-    (v .0, v .1, v .2, v .3, passed-more _ _ _ (v .4) l (built-yes _ _ _ _ _ _ _ (c .before .entry-matches .ensures) (c .if2 .left)))
+    let in-loop = c .before .before .before .before .before .before .before .before in
+    let v = in-loop .before .loop .inv in
+    (v .0, v .1, v .2, v .3, groups-more _ _ _ _ _ _ _ (c .before .entry-matches .ensures) (c .if2 .left) (v .4) (in-loop .loop-test .taken))
 
 returns-3 : tie.Need-returns-3 Inv-loop μ-loop
 returns-3 c = search groups-hold
@@ -72,9 +67,9 @@ groups-match-spec =
     (λ c. omega arith)
     (λ c. omega arith)
     mul-entry-matches-3
-    array-read-entry-matches
+    element-copy-out-entry-matches
     mul-entry-matches-4
-    array-read-entry-matches-2
+    element-copy-out-entry-matches-2
     mul-entry-matches-5
     shared-slice-read-entry-matches-3
     (λ c. omega arith)

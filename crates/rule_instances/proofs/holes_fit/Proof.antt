@@ -1,9 +1,7 @@
 -- `holes_fit` passes the holes in order: the first, those between instances, the last. Assumes nothing.
-use Prim.Native.Nat.{_-_, _+_, _≤_, _<_}
-use Rattle.laws.proofs.Searching.{Passed}
+use Rattle.laws.proofs.Prelude.{_-_, _+_, _≤_, _<_, needs, Passed}
 use Rattle.rule_instances.specs.Parts.{holeFits}
 use Rattle.rule_instances.proofs.Holes.{hole-first, hole-first-no, hole-between, hole-between-no, holes-fail, holes-fail-first, holes-passed, holes-more, holes-last}
-use borrow.Author.Needs.{needs}
 use Rattle.rule_instances.proofs.holes_fit.Statement.{statement}
 use Rattle.rule_instances.proofs.holes_fit.Tie as tie
 

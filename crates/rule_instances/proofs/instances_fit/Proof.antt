@@ -1,9 +1,7 @@
 -- `instances_fit` passes the instances in order and leaves at the first that reaches past the limit. Assumes nothing.
-use Prim.Native.Nat.{_-_, _≤_}
-use Rattle.laws.proofs.Searching.{Passed, passed-fails, passed-holds, passed-more, passed-none}
+use Rattle.laws.proofs.Prelude.{_-_, _≤_, needs, Passed, passed-fails, passed-holds, passed-more, passed-none}
 use Rattle.rule_instances.specs.Parts.{reachAt}
 use Rattle.rule_instances.proofs.Stepping.{reach-over, reach-past, reach-within}
-use borrow.Author.Needs.{needs}
 use Rattle.rule_instances.proofs.instances_fit.Statement.{statement}
 use Rattle.rule_instances.proofs.instances_fit.Tie as tie
 

@@ -1,9 +1,7 @@
 -- `instances_step` passes the instances in order and leaves at the first that reaches past the next. Assumes nothing.
-use Prim.Native.Nat.{_-_, _≤_}
-use Rattle.laws.proofs.Searching.{Passed, passed-fails, passed-holds, passed-more, passed-none}
+use Rattle.laws.proofs.Prelude.{_-_, _≤_, needs, Passed, passed-fails, passed-holds, passed-more, passed-none}
 use Rattle.rule_instances.specs.Parts.{originsStep, stepAt, OriginsValid}
 use Rattle.rule_instances.proofs.Stepping.{next-fits, step-false, step-fits, step-true}
-use borrow.Author.Needs.{needs}
 use Rattle.rule_instances.proofs.instances_step.Statement.{statement}
 use Rattle.rule_instances.proofs.instances_step.Tie as tie
 

@@ -1,8 +1,5 @@
 -- `counts_allowed` follows the definition along its tests. Assumes nothing.
-use mathlib.Core.Path.{refl}
-use native.Mathlib.Omega.{arith}
-use borrow.Author.Tests.{eq-eqb, ne-eqb}
-use Rattle.laws.proofs.Booleans.{also-yes, also-no, within-yes, within-low, within-high}
+use Rattle.laws.proofs.Prelude.{refl, arith, eq-eqb, ne-eqb, also-yes, also-no, within-yes, within-low, within-high}
 use Rattle.view.specs.Limits.{etypeEntriesAllowed, filetypeEntriesAllowed}
 use Rattle.rule_limits.specs.Parts.{countsAllowed}
 use Rattle.rule_limits.proofs.counts_allowed.Statement.{statement}

@@ -1,7 +1,5 @@
 -- `entry_fits` follows the definition; the end of an entry is added up only where it cannot wrap. Assumes nothing.
-use mathlib.Core.Path.{refl}
-use borrow.Author.Needs.{needs}
-use Rattle.laws.proofs.Booleans.{also-yes, also-no, unflag-true, unflag-false}
+use Rattle.laws.proofs.Prelude.{refl, needs, also-yes, also-no, unflag-true, unflag-false}
 use Rattle.rule_limits.specs.Parts.{entryFits}
 use Rattle.rule_limits.proofs.Numbers.{entry-past, entry-end-fits}
 use Rattle.rule_limits.proofs.entry_fits.Statement.{statement}

@@ -1,7 +1,5 @@
 -- `width_allowed` follows the definition along its tests. Assumes nothing.
-use mathlib.Core.Path.{refl}
-use borrow.Author.Tests.{eq-eqb, ne-eqb}
-use Rattle.laws.proofs.Booleans.{either-yes, either-else}
+use Rattle.laws.proofs.Prelude.{refl, eq-eqb, ne-eqb, either-yes, either-else}
 use Rattle.view.specs.Limits.{widthAllowed}
 use Rattle.rule_limits.proofs.width_allowed.Statement.{statement}
 use Rattle.rule_limits.proofs.width_allowed.Tie as tie

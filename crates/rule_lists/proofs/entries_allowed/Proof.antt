@@ -1,9 +1,5 @@
 -- `entries_allowed` passes the entries in order and leaves at the first that is not allowed. Assumes nothing.
-use Prim.Native.Nat.{_-_}
-use mathlib.Core.Path.{_≡_}
-use native.Mathlib.Omega.{arith}
-use lib.ListN.{length}
-use Rattle.laws.proofs.Searching.{Passed, passed-none, passed-fails, passed-more, passed-holds}
+use Rattle.laws.proofs.Prelude.{_-_, _≡_, arith, length, Passed, passed-none, passed-fails, passed-more, passed-holds}
 use Rattle.rule_lists.specs.Parts.{signedEntryFitsAt}
 use Rattle.rule_lists.proofs.Lending.{lent-no, lent-yes}
 use Rattle.rule_lists.proofs.entries_allowed.Statement.{statement}

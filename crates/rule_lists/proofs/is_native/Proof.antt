@@ -1,9 +1,5 @@
 -- `is_native` compares the length, then byte by byte. Assumes nothing.
-use Prim.Native.Nat.{_-_}
-use mathlib.Core.Path.{_≡_}
-use native.Mathlib.Omega.{arith}
-use lib.ListN.{length}
-use Rattle.laws.proofs.Searching.{Passed, passed-none, passed-more}
+use Rattle.laws.proofs.Prelude.{_-_, _≡_, arith, length, Passed, passed-none, passed-more}
 use Rattle.view.specs.Rules.{nativeName}
 use Rattle.rule_lists.specs.Parts.{nativeAt}
 use Rattle.rule_lists.proofs.Lending.{native-short, native-fails, native-no, native-yes, native-holds}

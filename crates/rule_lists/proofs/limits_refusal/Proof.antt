@@ -1,6 +1,5 @@
 -- `limits_refusal` follows checks 2 to 6 in their order. Assumes nothing.
-use mathlib.Core.Path.{refl}
-use Rattle.laws.proofs.Booleans.{check-yes, check-no, also-true, also-first, also-false, unflag-true, unflag-false}
+use Rattle.laws.proofs.Prelude.{refl, check-yes, check-no, also-true, also-first, also-false, unflag-true, unflag-false}
 use Rattle.rule_lists.specs.Parts.{limitsRefusal}
 use Rattle.rule_lists.proofs.Lending.{displacement-yes, displacement-no, extents-yes, extents-no, entries-yes, entries-no, etype-pairs, filetype-pairs}
 use Rattle.rule_lists.proofs.limits_refusal.Statement.{statement}

@@ -1,7 +1,5 @@
 -- `is_accepted` follows the tests on the parts, which make up the rules on the view that the parts stand for. Assumes nothing.
-use borrow.Author.Needs.{needs}
-use Rattle.laws.proofs.Booleans.{tests, unflag-true, unflag-false, also-yes, also-no}
-use borrow.Author.Tests.{le-leb, lt-leb}
+use Rattle.laws.proofs.Prelude.{needs, le-leb, lt-leb, tests, unflag-true, unflag-false, also-yes, also-no}
 use Rattle.rule_view.specs.Parts.{viewAccepted}
 use Rattle.rule_view.proofs.Chains.{shape-flags}
 use Rattle.rule_view.proofs.Whole.{keeps-by, no-writing, writing}
@@ -31,7 +29,7 @@ shape-apart-requires : tie.Need-shape-apart-requires
 shape-apart-requires c κs =
     let f = c .before .before in
     let e = f .before .before in
-    shape-flags _ _ _ _ _ _ _ _ _ (e .before .etype-valid .ensures) (e .if2 .left) (f .before .filetype-valid .ensures) (f .if3 .left)
+    shape-flags _ _ _ _ _ _ (e .before .etype-valid .ensures) (e .if2 .left) (f .before .filetype-valid .ensures) (f .if3 .left)
 
 returns-5 : tie.Need-returns-5
 unfolding viewAccepted

@@ -1,14 +1,12 @@
 -- `shape_apart` follows the definition along its tests; no sum of it wraps. Assumes nothing.
-use mathlib.Core.Path.{refl}
-use Rattle.laws.proofs.Booleans.{unflag-true, unflag-false, also-yes, also-no}
-use Rattle.rule_view.specs.Parts.{partsApart}
+use Rattle.laws.proofs.Prelude.{refl, needs, unflag-true, unflag-false, also-yes, also-no}
+use Rattle.rule_view.specs.Parts.{shapeApart}
 use Rattle.rule_view.proofs.Chains.{shape-end, shape-step, shape-tile, shape-first, shape-next}
-use borrow.Author.Needs.{needs}
 use Rattle.rule_view.proofs.shape_apart.Statement.{statement}
 use Rattle.rule_view.proofs.shape_apart.Tie as tie
 
 returns : tie.Need-returns
-unfolding partsApart
+unfolding shapeApart
 returns c = also-no _ _ (search unflag-false)
 
 add-end : tie.Need-add-end
@@ -18,7 +16,7 @@ instances-step-requires : tie.Need-instances-step-requires
 instances-step-requires c κs = search shape-step
 
 returns-2 : tie.Need-returns-2
-unfolding partsApart
+unfolding shapeApart
 returns-2 c = also-yes _ _ _ (search unflag-true) (also-no _ _ (search unflag-false))
 
 add-tile-end : tie.Need-add-tile-end
@@ -31,7 +29,7 @@ add-result : tie.Need-add-result
 add-result c = search (needs, shape-next)
 
 returns-3 : tie.Need-returns-3
-unfolding partsApart
+unfolding shapeApart
 returns-3 c = also-yes _ _ _ (search unflag-true) (also-yes _ _ _ (search unflag-true) refl)
 
 pub shape-apart-spec : {M : Type 1} → statement M

@@ -1,9 +1,6 @@
 -- `byte` is the byte at the place, below 256, or 0 past the end. Assumes nothing.
-use Prim.Native.Nat.{_+_}
-use mathlib.Core.Path.{refl}
-use native.Mathlib.Omega.{arith}
+use Rattle.laws.proofs.Prelude.{_+_, refl, arith, needs}
 use Rattle.tagged_fields.proofs.Bytes.{past-begin, past-rest}
-use borrow.Author.Needs.{needs}
 use Rattle.tagged_fields.proofs.byte.Statement.{statement}
 use Rattle.tagged_fields.proofs.byte.Tie as tie
 

@@ -1,7 +1,6 @@
 -- `field_at` follows the definition along its three tests. Assumes nothing.
-use native.Mathlib.Omega.{arith}
+use Rattle.laws.proofs.Prelude.{arith, needs}
 use Rattle.tagged_fields.proofs.Bytes.{field-end, cut-header, cut-body, field-whole}
-use borrow.Author.Needs.{needs}
 use Rattle.tagged_fields.proofs.field_at.Statement.{statement}
 use Rattle.tagged_fields.proofs.field_at.Tie as tie
 

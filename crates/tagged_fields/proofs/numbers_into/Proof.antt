@@ -1,9 +1,5 @@
 -- `numbers_into` stores each number at its index. Assumes nothing.
-use Prim.Native.Nat.{_-_, _≤_}
-use mathlib.Core.Path.{_≡_}
-use lib.ListN.{length}
-use Rattle.laws.specs.Lists.{front}
-use Rattle.laws.proofs.Stores.{storing}
+use Rattle.laws.proofs.Prelude.{_-_, _≤_, _≡_, length, front, storing}
 use Rattle.tagged_fields.specs.Fields.{numberFrom}
 use Rattle.tagged_fields.proofs.numbers_into.Statement.{statement}
 use Rattle.tagged_fields.proofs.numbers_into.Tie as tie

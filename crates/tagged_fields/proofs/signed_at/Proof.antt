@@ -1,6 +1,5 @@
 -- `signed_at` reads the number and then its sign. Assumes nothing.
-use mathlib.Core.Path.{ap, _∙_}
-use borrow.Author.Needs.{needs}
+use Rattle.laws.proofs.Prelude.{ap, _∙_, needs}
 use Rattle.tagged_fields.specs.Fields.{signedOf, signedAt}
 use Rattle.tagged_fields.proofs.Bytes.{signed-read}
 use Rattle.tagged_fields.proofs.signed_at.Statement.{statement}

@@ -1,9 +1,5 @@
 -- `signed_into` stores each signed number at its index. Assumes nothing.
-use Prim.Native.Nat.{_-_, _≤_}
-use mathlib.Core.Path.{_≡_, refl, _∙_}
-use lib.ListN.{length, length-set}
-use Rattle.laws.specs.Lists.{front}
-use Rattle.laws.proofs.Stores.{store-more, storing}
+use Rattle.laws.proofs.Prelude.{_-_, _≤_, _≡_, refl, _∙_, length, length-set, front, store-more, storing}
 use Rattle.tagged_fields.specs.Fields.{signedFrom}
 use Rattle.tagged_fields.proofs.Bytes.{signed-read}
 use Rattle.tagged_fields.proofs.signed_into.Statement.{statement}

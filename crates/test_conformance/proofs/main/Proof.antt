@@ -1,8 +1,5 @@
 -- `main` leaves its arrays at their lengths, and each turn takes one record of at most 65,538 bytes. Assumes nothing but what libc's functions say.
-use Prim.Native.Nat.{_+_, _*_, _≤_}
-use mathlib.Core.Path.{_≡_}
-use lib.ListN.{length}
-use borrow.Author.Needs.{needs}
+use Rattle.laws.proofs.Prelude.{_+_, _*_, _≤_, _≡_, length, needs}
 use Rattle.test_conformance.proofs.main.Statement.{statement}
 use Rattle.test_conformance.proofs.main.Tie as tie
 

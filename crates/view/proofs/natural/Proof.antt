@@ -1,11 +1,11 @@
 -- `natural` gives the natural number that a signed one is, or 0. The machine's reading of the number's bits is the number. Assumes nothing.
-use mir.Facts.{toZ-ofZ}
-use Rattle.view.proofs.Signs.{negative-is, natural-is, natural-fits}
+use Rattle.laws.proofs.Prelude.{toZ-ofZ, natural-sign, natural-fits}
+use Rattle.view.proofs.Signs.{negative-is, natural-is}
 use Rattle.view.proofs.natural.Statement.{statement}
 use Rattle.view.proofs.natural.Tie as tie
 
 cast-result : tie.Need-cast-result
-cast-result c = let f = c .before .fits .x in let e = toZ-ofZ f in rw e (natural-fits _ (rw e at (c .if1 .left)) f)
+cast-result c = let f = c .before .fits .x in let e = toZ-ofZ f in let t = rw e at (c .if1 .left) in rw e (natural-sign (c .before .args .x) t, natural-fits _ t f)
 
 returns : tie.Need-returns
 returns c = let e = toZ-ofZ (c .before .fits .x) in negative-is _ (rw e at (c .if1 .taken))

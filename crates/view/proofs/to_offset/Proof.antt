@@ -1,8 +1,5 @@
 -- `to_offset` casts a number below 2^63, which the signed type reads as itself. Assumes nothing.
-use borrow.Author.Needs.{needs}
-use native.Mathlib.Omega.{arith}
-use mir.Facts.{toZ-pos}
-use mir.Syntax.{w64}
+use Rattle.laws.proofs.Prelude.{arith, w64, toZ-pos, needs}
 use Rattle.view.proofs.to_offset.Statement.{statement}
 use Rattle.view.proofs.to_offset.Tie as tie
 

@@ -1,6 +1,5 @@
 -- `owner_in_entry` answers along its tests what the definition says. Assumes nothing.
-use native.Mathlib.Omega.{arith}
-use borrow.Author.Needs.{needs}
+use Rattle.laws.proofs.Prelude.{arith, needs}
 use Rattle.view_owner.proofs.Trying.{entry-after, entry-beside, offset-past, tile-past, before-fits, offset-fits, entry-hit}
 use Rattle.view_owner.proofs.owner_in_entry.Statement.{statement}
 use Rattle.view_owner.proofs.owner_in_entry.Tie as tie

@@ -1,15 +1,14 @@
 -- `owner_in_instance` tries entry after entry. The invariant: no entry before i has a pair of the byte, and their widths are summed. Assumes nothing.
-use Prim.Native.Nat.{_-_}
-use native.Mathlib.Omega.{arith}
+use Rattle.laws.proofs.Prelude.{_-_, arith}
 use Rattle.view_owner.proofs.Instances.{Tried, tried-none, tried-more, tried-stop, start-fits, packed-fits, data-small, tried-end}
 use Rattle.view_owner.proofs.owner_in_instance.Statement.{statement}
 use Rattle.view_owner.proofs.owner_in_instance.Tie as tie
 
 abbrev Inv-loop : tie.InvT-loop
-Inv-loop entries widths displacements extent instances g begin b n packed₀ i₀ packed i = Tried n widths displacements extent instances g (begin .0) (b .0) i packed
+Inv-loop v widths displacements g begin b n packed₀ i₀ packed i = Tried n widths displacements (v .filetype .extent) (v .filetype .instances) g (begin .0) (b .0) i packed
 
 abbrev μ-loop : tie.MeasureT-loop
-μ-loop entries widths displacements extent instances g begin b n packed₀ i₀ packed i = n - i
+μ-loop v widths displacements g begin b n packed₀ i₀ packed i = n - i
 
 loop-holds : tie.Need-loop-holds Inv-loop μ-loop
 loop-holds c = search tried-none

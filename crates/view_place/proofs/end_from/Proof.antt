@@ -1,9 +1,7 @@
 -- `end_from` follows the definition along its one test. Assumes nothing.
-use borrow.Author.Tests.{lt-ltb, le-ltb}
-use Rattle.laws.proofs.Booleans.{cond-yes, cond-no}
+use Rattle.laws.proofs.Prelude.{needs, lt-ltb, le-ltb, cond-yes, cond-no}
 use Rattle.view_place.proofs.Placing.{before-fits, last-fits, end-fits}
 use Rattle.view.specs.End.{endFrom}
-use borrow.Author.Needs.{needs}
 use Rattle.view_place.proofs.end_from.Statement.{statement}
 use Rattle.view_place.proofs.end_from.Tie as tie
 

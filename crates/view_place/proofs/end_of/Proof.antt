@@ -1,17 +1,15 @@
 -- `end_of` takes the greatest over the instances, which is end of file. The invariant: `end` is the greatest of the first i. Assumes nothing.
-use Prim.Native.Nat.{_-_}
-use borrow.Author.Needs.{needs}
-use Rattle.laws.proofs.Sums.{Highest, highest-none, highest-more}
+use Rattle.laws.proofs.Prelude.{_-_, needs, Highest, highest-none, highest-more}
 use Rattle.view_place.specs.Spots.{endAt}
 use Rattle.view_place.proofs.Placing.{end-at, origin-below, origin-scaled, start-fits, end-signed, end-found}
 use Rattle.view_place.proofs.end_of.Statement.{statement}
 use Rattle.view_place.proofs.end_of.Tie as tie
 
 abbrev Inv-loop : tie.InvT-loop
-Inv-loop v origins size instances extent end₀ i₀ end i = Highest (endAt v origins size) i instances end
+Inv-loop v origins size end₀ i₀ end i = Highest (endAt v origins size) i (v .filetype .instances) end
 
 abbrev μ-loop : tie.MeasureT-loop
-μ-loop v origins size instances extent end₀ i₀ end i = instances - i
+μ-loop v origins size end₀ i₀ end i = v .filetype .instances - i
 
 loop-holds : tie.Need-loop-holds Inv-loop μ-loop
 loop-holds c = search highest-none

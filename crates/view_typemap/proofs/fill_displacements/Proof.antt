@@ -1,11 +1,5 @@
 -- `fill_displacements` stores at each index the displacement of the entry that it stands at, shifted by the origin of the group; they are remainder and quotient of the index. Assumes nothing.
-use Prim.Native.Nat.{_*_, _-_, _/_, _%_, _≤_}
-use mathlib.Core.Path.{_≡_, refl}
-use native.Mathlib.Omega.{arith}
-use borrow.Author.Needs.{set-long}
-use lib.ListN.{length}
-use Rattle.laws.proofs.Stores.{store-none, store-more, store-end}
-use Rattle.laws.specs.Lists.{front}
+use Rattle.laws.proofs.Prelude.{_*_, _-_, _/_, _%_, _≤_, _≡_, refl, arith, length, set-long, front, store-none, store-more, store-end}
 use Rattle.view_typemap.specs.Parts.{groupDisplacement}
 use Rattle.view_typemap.proofs.Filling.{entry-below, entry-held, entry-scaled, group-held, group-scaled, sum-small, first-group, first-entry, group-next, entry-next, displacement-is}
 use Rattle.view_typemap.proofs.fill_displacements.Statement.{statement}

@@ -1,11 +1,5 @@
 -- `fill_widths` stores at each index the width of the entry that it stands at, which is the remainder of the index. Assumes nothing.
-use Prim.Native.Nat.{_*_, _-_, _%_, _≤_}
-use mathlib.Core.Path.{_≡_, refl}
-use native.Mathlib.Omega.{arith}
-use borrow.Author.Needs.{set-long}
-use lib.ListN.{length}
-use Rattle.laws.proofs.Stores.{store-none, store-more, store-end}
-use Rattle.laws.specs.Lists.{front}
+use Rattle.laws.proofs.Prelude.{_*_, _-_, _%_, _≤_, _≡_, refl, arith, length, set-long, front, store-none, store-more, store-end}
 use Rattle.view_typemap.specs.Parts.{groupWidth}
 use Rattle.view_typemap.proofs.Filling.{entry-below, entry-held, entry-scaled, first-entry, entry-next, width-is}
 use Rattle.view_typemap.proofs.fill_widths.Statement.{statement}

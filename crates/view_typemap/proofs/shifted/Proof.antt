@@ -1,7 +1,5 @@
 -- `shifted` casts a sum below 2^63, which the signed type reads as itself. Assumes nothing.
-use native.Mathlib.Omega.{arith}
-use mir.Facts.{toZ-pos}
-use mir.Syntax.{w64}
+use Rattle.laws.proofs.Prelude.{arith, w64, toZ-pos}
 use Rattle.view_typemap.proofs.shifted.Statement.{statement}
 use Rattle.view_typemap.proofs.shifted.Tie as tie
 

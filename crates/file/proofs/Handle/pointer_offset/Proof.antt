@@ -1,5 +1,6 @@
 -- `start` is the pointer as an offset, 0 for one that check 1 refuses. Assumes nothing.
-use Rattle.file.proofs.Accessing.{start-past, start-small, start-at}
+use Rattle.handle.proofs.Ranging.{pointer-signed}
+use Rattle.file.proofs.Checking.{start-past, start-at}
 use Rattle.file.proofs.Handle.pointer_offset.Statement.{statement}
 use Rattle.file.proofs.Handle.pointer_offset.Tie as tie
 
@@ -14,5 +15,5 @@ pointer-offset-spec =
     tie.close
     (tie.spec
     returns
-    (λ c κs. search start-small)
+    (λ c κs. search pointer-signed)
     returns-2)

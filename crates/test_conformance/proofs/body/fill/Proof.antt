@@ -1,8 +1,5 @@
 -- `fill` stores within the slice: `i` is at most its length, which no store changes. Assumes nothing.
-use Prim.Native.Nat.{_-_, _≤_}
-use mathlib.Core.Path.{_≡_}
-use lib.ListN.{length}
-use borrow.Author.Needs.{needs}
+use Rattle.laws.proofs.Prelude.{_-_, _≤_, _≡_, length, needs}
 use Rattle.test_conformance.proofs.body.fill.Statement.{statement}
 use Rattle.test_conformance.proofs.body.fill.Tie as tie
 

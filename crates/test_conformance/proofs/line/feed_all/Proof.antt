@@ -1,7 +1,5 @@
 -- `feed_all` reads within the slice: `i` is at most its length. Assumes nothing.
-use Prim.Native.Nat.{_-_, _≤_}
-use lib.ListN.{length}
-use borrow.Author.Needs.{needs}
+use Rattle.laws.proofs.Prelude.{_-_, _≤_, length, needs}
 use Rattle.test_conformance.proofs.line.feed_all.Statement.{statement}
 use Rattle.test_conformance.proofs.line.feed_all.Tie as tie
 

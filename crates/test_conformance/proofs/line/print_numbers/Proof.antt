@@ -1,7 +1,5 @@
 -- `print_numbers` reads within the slice: `i` is at most its length. Assumes nothing but what libc's functions say.
-use Prim.Native.Nat.{_-_, _≤_}
-use lib.ListN.{length}
-use borrow.Author.Needs.{needs}
+use Rattle.laws.proofs.Prelude.{_-_, _≤_, length, needs}
 use Rattle.test_conformance.proofs.line.print_numbers.Statement.{statement}
 use Rattle.test_conformance.proofs.line.print_numbers.Tie as tie
 
