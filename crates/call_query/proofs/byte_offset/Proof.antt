@@ -4,14 +4,8 @@ use Rattle.call_query.proofs.Querying.{query-tiled, query-origins, plac
 use Rattle.call_query.proofs.byte_offset.Statement.{statement}
 use Rattle.call_query.proofs.byte_offset.Tie as tie
 
-handle-valid-requires : tie.Need-handle-valid-requires
-handle-valid-requires c κs = search needs
-
 returns : tie.Need-returns
 returns c = search place-handle
-
-offset-allowed-requires : tie.Need-offset-allowed-requires
-offset-allowed-requires c κs = search needs
 
 returns-2 : tie.Need-returns-2
 returns-2 c = search place-range
@@ -26,9 +20,9 @@ pub byte-offset-spec : {M : Type 1} → statement M
 byte-offset-spec =
     tie.close
     (tie.spec
-    handle-valid-requires
+    (λ c κs. search needs)
     returns
-    offset-allowed-requires
+    (λ c κs. search needs)
     returns-2
     place-of-requires
     returns-3)

@@ -4,9 +4,6 @@ use Rattle.call_query.proofs.Querying.{file-tiled, file-origins, file-s
 use Rattle.call_query.proofs.end.Statement.{statement}
 use Rattle.call_query.proofs.end.Tie as tie
 
-file-valid-requires : tie.Need-file-valid-requires
-file-valid-requires c κs = search needs
-
 returns : tie.Need-returns
 returns c = search end-handle
 
@@ -17,4 +14,4 @@ returns-2 : tie.Need-returns-2
 returns-2 c = search end-found
 
 pub end-spec : {M : Type 1} → statement M
-end-spec = tie.close (tie.spec file-valid-requires returns end-of-requires returns-2)
+end-spec = tie.close (tie.spec (λ c κs. search needs) returns end-of-requires returns-2)

@@ -4,9 +4,6 @@ use Rattle.call_query.proofs.Getting.{got-entries, got-instances, got-h
 use Rattle.call_query.proofs.get_view.Statement.{statement}
 use Rattle.call_query.proofs.get_view.Tie as tie
 
-handle-valid-requires : tie.Need-handle-valid-requires
-handle-valid-requires c κs = search needs
-
 returns : tie.Need-returns
 returns c = search got-handle
 
@@ -19,18 +16,6 @@ returns-2 c = search got-short
 fill-lists-requires : tie.Need-fill-lists-requires
 fill-lists-requires c κs = search got-ready
 
-same-length : tie.Need-same-length
-same-length c = search needs
-
-same-length-2 : tie.Need-same-length-2
-same-length-2 c = search needs
-
-same-length-3 : tie.Need-same-length-3
-same-length-3 c = search needs
-
-same-length-4 : tie.Need-same-length-4
-same-length-4 c = search needs
-
 returns-3 : tie.Need-returns-3
 returns-3 c = search got-filled
 
@@ -38,13 +23,13 @@ pub get-view-spec : {M : Type 1} → statement M
 get-view-spec =
     tie.close
     (tie.spec
-    handle-valid-requires
+    (λ c κs. search needs)
     returns
     lists-long-requires
     returns-2
     fill-lists-requires
-    same-length
-    same-length-2
-    same-length-3
-    same-length-4
+    (λ c. search needs)
+    (λ c. search needs)
+    (λ c. search needs)
+    (λ c. search needs)
     returns-3)

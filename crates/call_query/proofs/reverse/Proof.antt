@@ -4,14 +4,8 @@ use Rattle.call_query.proofs.Querying.{query-valid, owner-handle, owner
 use Rattle.call_query.proofs.reverse.Statement.{statement}
 use Rattle.call_query.proofs.reverse.Tie as tie
 
-handle-valid-requires : tie.Need-handle-valid-requires
-handle-valid-requires c κs = search needs
-
 returns : tie.Need-returns
 returns c = search owner-handle
-
-allows-writing-requires : tie.Need-allows-writing-requires
-allows-writing-requires c κs = search needs
 
 returns-2 : tie.Need-returns-2
 returns-2 c = search owner-mode
@@ -26,9 +20,9 @@ pub reverse-spec : {M : Type 1} → statement M
 reverse-spec =
     tie.close
     (tie.spec
-    handle-valid-requires
+    (λ c κs. search needs)
     returns
-    allows-writing-requires
+    (λ c κs. search needs)
     returns-2
     owner-of-requires
     returns-3)

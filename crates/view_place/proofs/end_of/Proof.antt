@@ -23,9 +23,6 @@ element-copy-out-start c = search origin-below
 add-start : tie.Need-add-start Inv-loop μ-loop
 add-start c = search start-fits
 
-end-from-requires : tie.Need-end-from-requires Inv-loop μ-loop
-end-from-requires c κs = search needs
-
 loop-again : tie.Need-loop-again Inv-loop μ-loop
 loop-again c = search (highest-more, end-at)
 
@@ -45,7 +42,7 @@ end-of-spec =
     mul-start
     element-copy-out-start
     add-start
-    end-from-requires
+    (λ c κs. search needs)
     (λ c κs. tt)
     (λ c. search needs)
     (λ c. search needs)

@@ -4,17 +4,11 @@ use borrow.Author.Needs.{needs}
 use Rattle.view_place.proofs.spot_of.Statement.{statement}
 use Rattle.view_place.proofs.spot_of.Tie as tie
 
-div-tile : tie.Need-div-tile
-div-tile c = search needs
-
 mul-step : tie.Need-mul-step
 mul-step c = search step-fits
 
 add-begin : tie.Need-add-begin
 add-begin c = search tile-fits
-
-rem-instance : tie.Need-rem-instance
-rem-instance c = search needs
 
 returns : tie.Need-returns
 returns c = search spot-made
@@ -24,8 +18,8 @@ spot-of-spec =
     tie.close
     (tie.spec
     (λ c κs. search needs)
-    div-tile
+    (λ c. search needs)
     mul-step
     add-begin
-    rem-instance
+    (λ c. search needs)
     returns)

@@ -4,11 +4,8 @@ use Rattle.file.proofs.Answering.{place-answered}
 use Rattle.file.proofs.Handle.byte_offset.Statement.{statement}
 use Rattle.file.proofs.Handle.byte_offset.Tie as tie
 
-byte-offset-requires : tie.Need-byte-offset-requires
-byte-offset-requires c κs = search needs
-
 returns : tie.Need-returns
 returns c = search place-answered
 
 pub byte-offset-spec : {M : Type 1} → statement M
-byte-offset-spec = tie.close (tie.spec byte-offset-requires returns)
+byte-offset-spec = tie.close (tie.spec (λ c κs. search needs) returns)

@@ -4,11 +4,8 @@ use Rattle.file.proofs.Answering.{end-answered}
 use Rattle.file.proofs.Handle.end.Statement.{statement}
 use Rattle.file.proofs.Handle.end.Tie as tie
 
-end-requires : tie.Need-end-requires
-end-requires c κs = search needs
-
 returns : tie.Need-returns
 returns c = search end-answered
 
 pub end-spec : {M : Type 1} → statement M
-end-spec = tie.close (tie.spec end-requires returns)
+end-spec = tie.close (tie.spec (λ c κs. search needs) returns)

@@ -4,14 +4,8 @@ use Rattle.file.proofs.Readable.{at-answered}
 use Rattle.file.proofs.Handle.read_at.Statement.{statement}
 use Rattle.file.proofs.Handle.read_at.Tie as tie
 
-read-requires : tie.Need-read-requires
-read-requires c κs = search needs
-
-same-length : tie.Need-same-length
-same-length c = search needs
-
 returns : tie.Need-returns
 returns c = search at-answered
 
 pub read-at-spec : {M : Type 1} → statement M
-read-at-spec = tie.close (tie.spec read-requires same-length returns)
+read-at-spec = tie.close (tie.spec (λ c κs. search needs) (λ c. search needs) returns)

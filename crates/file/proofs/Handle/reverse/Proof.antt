@@ -4,11 +4,8 @@ use Rattle.file.proofs.Answering.{owner-answered}
 use Rattle.file.proofs.Handle.reverse.Statement.{statement}
 use Rattle.file.proofs.Handle.reverse.Tie as tie
 
-reverse-requires : tie.Need-reverse-requires
-reverse-requires c κs = search needs
-
 returns : tie.Need-returns
 returns c = search owner-answered
 
 pub reverse-spec : {M : Type 1} → statement M
-reverse-spec = tie.close (tie.spec reverse-requires returns)
+reverse-spec = tie.close (tie.spec (λ c κs. search needs) returns)

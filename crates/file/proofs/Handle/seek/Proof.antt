@@ -4,12 +4,6 @@ use Rattle.file.proofs.Answering.{seek-refused, seek-done}
 use Rattle.file.proofs.Handle.seek.Statement.{statement}
 use Rattle.file.proofs.Handle.seek.Tie as tie
 
-seek-requires : tie.Need-seek-requires
-seek-requires c κs = search needs
-
-seek-refused-requires : tie.Need-seek-refused-requires
-seek-refused-requires c κs = search needs
-
 returns : tie.Need-returns
 returns c = search seek-refused
 
@@ -17,4 +11,4 @@ returns-2 : tie.Need-returns-2
 returns-2 c = search seek-done
 
 pub seek-spec : {M : Type 1} → statement M
-seek-spec = tie.close (tie.spec seek-requires seek-refused-requires returns returns-2)
+seek-spec = tie.close (tie.spec (λ c κs. search needs) (λ c κs. search needs) returns returns-2)

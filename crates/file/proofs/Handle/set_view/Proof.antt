@@ -4,20 +4,8 @@ use Rattle.file.proofs.Answering.{set-handle, set-refuses, set-grants}
 use Rattle.file.proofs.Handle.set_view.Statement.{statement}
 use Rattle.file.proofs.Handle.set_view.Tie as tie
 
-handle-valid-requires : tie.Need-handle-valid-requires
-handle-valid-requires c κs = search needs
-
-set-view-answer-requires : tie.Need-set-view-answer-requires
-set-view-answer-requires c κs = search needs
-
 returns : tie.Need-returns
 returns c = search set-handle
-
-accept-requires : tie.Need-accept-requires
-accept-requires c κs = search needs
-
-set-view-answer-requires-2 : tie.Need-set-view-answer-requires-2
-set-view-answer-requires-2 c κs = search needs
 
 returns-2 : tie.Need-returns-2
 returns-2 c =
@@ -25,9 +13,6 @@ returns-2 c =
     let passed = made .before in
     let start = passed .before .before .before .before .before .before .before .before .before .before in
     set-refuses _ _ _ _ _ _ _ _ _ (start .fits .displacement) (start .fits .ex) (start .fits .fx) _ (passed .before .handle-valid .ensures) (passed .if1 .left) _ (made .accept .ensures) (c .before .if2 .taken) _ (c .set-view-answer2 .ensures)
-
-set-view-answer-requires-3 : tie.Need-set-view-answer-requires-3
-set-view-answer-requires-3 c κs = search needs
 
 returns-3 : tie.Need-returns-3
 returns-3 c =
@@ -41,11 +26,11 @@ pub set-view-spec : {M : Type 1} → statement M
 set-view-spec =
     tie.close
     (tie.spec
-    handle-valid-requires
-    set-view-answer-requires
+    (λ c κs. search needs)
+    (λ c κs. search needs)
     returns
-    accept-requires
-    set-view-answer-requires-2
+    (λ c κs. search needs)
+    (λ c κs. search needs)
     returns-2
-    set-view-answer-requires-3
+    (λ c κs. search needs)
     returns-3)
