@@ -1,4 +1,4 @@
-"""The fixed script: document 01's figures, its six errors, both ends of each limit and the orders of checks.
+"""The fixed script: document 01's figures, its six errors, both ends of each limit in every call that tests it, the orders of checks.
 
 Each row states a record with what document 01 says of its line; `faults` compares that with the model's lines.
 """
@@ -14,6 +14,19 @@ BYTES = Shape((1,), (0,), 1, (0,), 1)  # the default view
 FIRST = words((4,), 12, 100)  # P1
 LOOSE = Shape((4, 1), (0, 4), 8, (0, 16), 24)  # P8
 PARTS = Shape((2, 1, 4), (1, 4, 6), 12, (0, 12), 36, 2)  # bytes 3, 4, 6, 8 to 11, and 12 further on
+GOOD_WIDTHS = (1, 2, 4, 8)
+BAD_WIDTHS = (0, 3, 5, 6, 7, 9, 10, 11, 12, 13, 14, 15, 16, 17, 32, 64, 256, 2**31, 2**32, 2**32 + 1, 2**32 + 4, 2**63, ALL_ONES)
+MOST_INSTANCES = {1: 64, 2: 64, 3: 64, 4: 64, 5: 51, 6: 42, 7: 36, 8: 32}  # by the etype's entries: at most 64, and 256 entries in all
+
+
+def bad_names():
+    """What is not `native`: its beginnings, what is longer, and each single byte of it changed."""
+    name = b"native"
+    beginnings = [name[:length] for length in range(6)]
+    longer = [name + more for more in (b"\0", b" ", b"e", b"32", name)] + [b"\0" + name, b" " + name, b"nnative"]
+    changed = [name[:i] + bytes([other]) + name[i + 1:] for i, byte in enumerate(name)
+               for other in (byte ^ 0x20, byte + 1, byte - 1, byte ^ 0x80, 0)]
+    return beginnings + longer + changed + [b"NATIVE", b"evitan", b"\0" * 6, b"internal", b"external32"]
 
 
 def made(seed, count):
@@ -227,7 +240,7 @@ def opens(s):
     s.add(write_at(3, 0, 3, 2, 2), count=2)
     s.owner(3, 7, (7, 0))
     s.set(3, words((0, 2), 6), 10)
-    for mode in (4, 2**32 + 1, ALL_ONES):
+    for mode in (4, 5, 6, 7, 8, 2**32, 2**32 + 1, 2**32 + 3, 2**63, ALL_ONES):
         s.section = f"refused open, mode {mode}"
         s.add(open_handle(3, mode), 16, pointer=0)
         s.add(place(3, 0), 1)
@@ -261,52 +274,65 @@ def bytewise(n, entries):
     return Request(0, extent, max(entries, 1), (1,) * n, tuple(range(n)), (1,) * entries, tuple(range(entries)))
 
 
+def one_changed(numbers, index, number):
+    """These numbers with another one at this index."""
+    return numbers[:index] + (number,) + numbers[index + 1:]
+
+
 def set_widths(s):
     s.section = "set: widths"
     mode_and_pointer(s, 3, 7)
-    bad = [0, 3, 5, 7, 9, 2**32 + 4, ALL_ONES]
-    refused_sets(s, [Shape((w,), (0,), 8, (0,), 8) for w in bad], 6)
     word = words((0,), 4).request()
-    refused_sets(s, [replace(word, filetype_widths=(w,)) for w in (3, 9)], 6)
-    refused_sets(s, [replace(word, etype_widths=(3,))], 6)
+    refused_sets(s, [Shape((w,), (0,), 8, (0,), 8) for w in BAD_WIDTHS], 6)
+    refused_sets(s, [replace(word, etype_widths=(w,)) for w in BAD_WIDTHS], 6)
+    refused_sets(s, [replace(word, filetype_widths=(w,)) for w in BAD_WIDTHS], 6)
+    refused_sets(s, [replace(word, etype_widths=(w,)) for w in (1, 2, 8)], 8)
     refused_sets(s, [replace(word, filetype_widths=(w,)) for w in (1, 2, 8)], 8)
     refused_sets(s, [Shape((1, 2, 3), (0, 1, 3), 6, (0, 6), 12)], 6)
-    granted_sets(s, [Shape((w,), (0,), w, (0,), w) for w in (1, 2, 4, 8)])
+    for index in range(8):
+        refused_sets(s, [Shape(one_changed((8,) * 8, index, 6), tuple(range(0, 64, 8)), 64, (0,), 64)], 6)
+    granted_sets(s, [Shape((w,), (0,), w, (0,), w) for w in GOOD_WIDTHS])
     granted_sets(s, [Shape((1, 2, 4, 8), (0, 1, 3, 7), 15, (0, 15), 30)])
 
 
 def set_counts(s):
     s.section = "set: entry counts"
     mode_and_pointer(s, 3, 7)
-    refused = [(0, 1), (0, 0), (9, 9), (1, 0), (8, 0), (1, 65), (3, 193), (4, 257)]
+    refused = [(0, 1), (0, 0), (9, 9), (9, 18), (9, 256), (10, 10), (16, 16), (16, 256)] + [(n, 0) for n in range(1, 9)]
+    refused += [(1, 65), (1, 128), (1, 256), (2, 129), (2, 130), (3, 193), (3, 195), (4, 257), (4, 260), (5, 257), (5, 260)]
+    refused += [(6, 257), (6, 258), (7, 257), (7, 259), (8, 257), (8, 264), (8, 300)]
     refused_sets(s, [bytewise(n, entries) for n, entries in refused], 4)
-    refused_sets(s, [bytewise(5, 256)], 8)
+    refused_sets(s, [bytewise(n, entries) for n, entries in [(2, 127), (3, 191), (4, 255), (5, 256), (6, 256), (7, 256), (8, 255)]], 8)
     pairs = bytewise(2, 4)
     refused_sets(s, [replace(pairs, etype_widths=(1,)), replace(pairs, etype_displacements=(0,)),
                      replace(pairs, etype_widths=(1, 1, 1)), replace(pairs, filetype_widths=(1,) * 3),
                      replace(pairs, filetype_displacements=(0, 1, 2)), replace(pairs, filetype_displacements=(0, 1, 2, 3, 4)),
                      replace(pairs, etype_displacements=()), replace(pairs, filetype_widths=())], 4)
-    granted = [(1, 1), (8, 8), (1, 64), (3, 192), (4, 256), (5, 255), (8, 256)]
-    granted_sets(s, [bytewise(n, entries) for n, entries in granted])
+    granted_sets(s, [bytewise(n, n * most) for n, most in MOST_INSTANCES.items()])
+    granted_sets(s, [bytewise(n, n) for n in MOST_INSTANCES])
 
 
 def set_entry_displacements(s):
     s.section = "set: entry displacements"
     mode_and_pointer(s, 3, 7)
     bad = [-1, -4, MEGA - 3, MEGA, LARGEST, LARGEST - 3, LARGEST - 4, SMALLEST]
+    word, eight = words((0,), 4).request(), Shape((1,) * 8, tuple(range(8)), 8, (0, 8), 16).request()
     refused_sets(s, [Shape((4,), (d,), 4, (0,), 4) for d in bad], 6)
-    refused_sets(s, [replace(words((0,), 4).request(), filetype_displacements=(d,)) for d in (-1, MEGA - 3, LARGEST, SMALLEST)], 6)
+    refused_sets(s, [replace(word, filetype_displacements=(d,)) for d in bad], 6)
+    refused_sets(s, [replace(word, etype_displacements=(d,)) for d in bad], 6)
     refused_sets(s, [Shape((w,), (MEGA - w + 1,), 8, (0,), 8) for w in (1, 2, 8)], 6)
-    refused_sets(s, [Shape((w,), (0,), 1, (MEGA - w + 1,), 8) for w in (1, 2, 8)], 6)
-    granted_sets(s, [Shape((w,), (MEGA - w,), w, (0,), w) for w in (1, 2, 4, 8)])
-    granted_sets(s, [Shape((w,), (0,), w, (MEGA - w,), w) for w in (1, 2, 4, 8)])
+    refused_sets(s, [Shape((w,), (0,), 1, (MEGA - w + 1,), 8) for w in GOOD_WIDTHS], 6)
+    refused_sets(s, [replace(eight, etype_displacements=tuple(range(7)) + (MEGA,)),
+                     replace(eight, filetype_displacements=tuple(range(15)) + (MEGA,))], 6)
+    granted_sets(s, [Shape((w,), (MEGA - w,), w, (0,), w) for w in GOOD_WIDTHS])
+    granted_sets(s, [Shape((w,), (0,), w, (MEGA - w,), w) for w in GOOD_WIDTHS])
     granted_sets(s, [Shape((4,), (MEGA - 12,), 4, (0, 8), 12)])
 
 
 def set_extents(s):
     s.section = "set: extents"
     mode_and_pointer(s, 3, 7)
-    bad = [0, -1, MEGA + 1, LARGEST, SMALLEST]
+    bad = [0, -1, MEGA + 1, 2 * MEGA, 2**32 + 1, LARGEST, SMALLEST]
     refused_sets(s, [replace(BYTES, etype_extent=e) for e in bad], 5)
     refused_sets(s, [replace(BYTES, filetype_extent=f) for f in bad], 5)
     granted_sets(s, [BYTES, replace(BYTES, etype_extent=MEGA), replace(BYTES, filetype_extent=MEGA),
@@ -316,8 +342,8 @@ def set_extents(s):
 def set_view_displacements(s):
     s.section = "set: view displacements"
     mode_and_pointer(s, 3, 7)
-    refused_sets(s, [words((0,), 4, d) for d in (-1, 2**40 + 1, LARGEST, SMALLEST)], 3)
-    granted_sets(s, [words((0,), 4, d) for d in (0, 2**40)])
+    refused_sets(s, [words((0,), 4, d) for d in (-1, 2**40 + 1, 2**41, LARGEST, SMALLEST)], 3)
+    granted_sets(s, [words((0,), 4, d) for d in (0, 1, 2**39 + 1, 2**40 - 1, 2**40)])
     s.add(place(1, 2**32 - 1), a=2**40 + (2**32 - 1) * 4)
 
 
@@ -325,8 +351,7 @@ def set_representations(s):
     s.section = "set: representations"
     mode_and_pointer(s, 3, 7)
     word = words((0,), 4).request()
-    bad = [b"", b"nativ", b"native\0", b"Native", b"nativE", b"external32"]
-    refused_sets(s, [replace(word, representation=r) for r in bad], 2)
+    refused_sets(s, [replace(word, representation=name) for name in bad_names()], 2)
     granted_sets(s, [word])
 
 
@@ -336,6 +361,9 @@ def set_order(s):
         mode_and_pointer(s, mode, 7)
         refused_sets(s, [Shape((4, 4), (4, 0), 8, (0,), 8), Shape((4, 4), (0, 8), 4, (0, 4), 16), words((4, 0), 8),
                          words((0, 8, 7), 12)], 7)
+        refused_sets(s, [Request(0, 8, 8, (4, 4), (4, 0), (4, 4), (0, 4)), Request(0, 4, 4, (4, 4), (1, 0), (4,), (0,)),
+                         Request(0, 3, 3, (1,) * 3, (0, 2, 1), (1,) * 3, (0, 1, 2)),
+                         Request(0, 8, 8, (1,) * 8, (0, 1, 2, 3, 4, 5, 7, 6), (1,) * 8, tuple(range(8)))], 7)  # only the etype's
     granted_sets(s, [Shape((4, 2), (3, 3), 4, (0, 0), 4), words((4, 4, 8), 12)])
     s.add(read_at(1, 0, 0, 3, 12), count=3)
 
@@ -446,80 +474,105 @@ def every_call(s, slot, file, refusal=0, access=(0,) * 5, count=1):
     s.set(slot, words((4,), 12), refusal)
 
 
+NEXT_FAR = (0, 0, 0, 14, 0)  # the etype at offset 0 lies in the file, that at offset 1 does not
+ALL_FAR = (0, 0, 14, 14, 0)
+
+
+def in_a_row(n, instances):
+    """This many instances of an etype of n bytes, each right after the one before."""
+    return Shape((1,) * n, tuple(range(n)), n, tuple(range(0, n * instances, n)), n * instances)
+
+
+def granted_forgeries():
+    """Handles at the limits that keep the rules: name, mode, pointer, shape and the refusals of `every_call`."""
+    yield "smallest numbers", 1, 0, BYTES, READ_ONLY
+    yield from ((f"mode {mode}", mode, 1, FIRST, access) for mode, access in [(1, READ_ONLY), (2, WRITE_ONLY), (3, (0,) * 5)])
+    yield from ((f"largest pointer, mode {mode}", mode, 2**32, FIRST, access) for mode, access in [(1, READ_ONLY), (2, WRITE_ONLY)])
+    yield "largest pointer and view displacement", 3, 2**32, replace(BYTES, displacement=2**40), (0,) * 5
+    yield "largest view displacement", 3, 1, replace(FIRST, displacement=2**40), ALL_FAR
+    yield from ((f"{n} entries, {k} instances", 3, 1, in_a_row(n, k), (0,) * 5) for n, k in MOST_INSTANCES.items())
+    yield "4 entries, 64 instances, mode 2", 2, 1, in_a_row(4, 64), WRITE_ONLY
+    yield "1 entry, 64 instances, overlap, mode 1", 1, 1, Shape((8,), (0,), 8, tuple(range(64)), 1), READ_ONLY
+    yield from ((f"width {w}", 3, 1, Shape((w,), (0,), w, (0,), w), (0,) * 5) for w in GOOD_WIDTHS)
+    yield "largest etype displacement, extents", 3, 1, Shape((1, 2), (0, MEGA - 2), MEGA, (0,), MEGA), ALL_FAR
+    yield from ((f"largest etype displacement, width {w}", 3, 1, Shape((w,), (MEGA - w,), w, (0,), w), ALL_FAR) for w in GOOD_WIDTHS)
+    yield "largest origin, two instances", 3, 1, Shape((8,), (0,), 8, (0, MEGA - 8), MEGA), NEXT_FAR
+    yield from ((f"largest origin, width {w}", 3, 1, Shape((w,), (0,), w, (MEGA - w,), w), ALL_FAR) for w in GOOD_WIDTHS)
+    yield "largest etype extent", 3, 1, replace(BYTES, etype_extent=MEGA), (0,) * 5
+    yield "largest filetype extent", 3, 1, replace(BYTES, filetype_extent=MEGA), NEXT_FAR
+    yield "largest extents", 3, 1, replace(BYTES, etype_extent=MEGA, filetype_extent=MEGA), NEXT_FAR
+    yield "equal displacements", 1, 1, Shape((4, 2), (3, 3), 4, (0, 0), 4), READ_ONLY
+    yield "entries and tiles that touch", 3, 1, words((4, 8), 8), (0,) * 5
+    yield "holes of E", 3, 1, words((4, 12), 20), (0,) * 5
+
+
 def forged_granted(s):
-    s.add(new_file(0, 200, 180, 6))
-    rows = [
-        ("smallest numbers", 1, 0, BYTES, READ_ONLY),
-        ("largest pointer and view displacement", 3, 2**32, replace(BYTES, displacement=2**40), (0,) * 5),
-        ("8 entries, 32 instances", 3, 1, Shape((1,) * 8, tuple(range(8)), 8, tuple(range(0, 256, 8)), 256), (0,) * 5),
-        ("4 entries, 64 instances, mode 2", 2, 1, Shape((1,) * 4, tuple(range(4)), 4, tuple(range(0, 256, 4)), 256), WRITE_ONLY),
-        ("1 entry, 64 instances, overlap, mode 1", 1, 1, Shape((8,), (0,), 8, tuple(range(64)), 1), READ_ONLY),
-        ("largest etype displacement, extents", 3, 1, Shape((1, 2), (0, MEGA - 2), MEGA, (0,), MEGA), (0, 0, 14, 14, 0)),
-        ("largest origin", 3, 1, Shape((8,), (0,), 8, (0, MEGA - 8), MEGA), (0, 0, 0, 14, 0)),
-    ]
-    for name, mode, pointer, shape, access in rows:
+    s.add(new_file(0, 600, 580, 6))
+    for name, mode, pointer, shape, access in granted_forgeries():
         s.section = f"forged, granted: {name}"
+        n, k = len(shape.widths), len(shape.origins)
         s.add(forged(0, mode, pointer, shape), pointer=pointer)
+        s.add(give_back(0, (n, n, n * k, n * k)), a=shape.displacement, b=n, c=shape.etype_extent, d=n * k, e=shape.filetype_extent)
+        s.add(place(0, k - 1), a=shape.displacement + shape.origins[-1])
         every_call(s, 0, 0, access=access, count=0 if pointer == 2**32 else 1)
 
 
 def forged_refused(s):
-    for name, forgery in forgeries_at_the_limits():
-        s.section = f"forged, refused: {name}"
-        s.add(forgery)
-        every_call(s, 0, 0, 1)
-    for name, forgery in other_forgeries():
-        s.section = f"forged, refused: {name}"
-        s.add(forgery)
-        s.add(place(0, 0), 1)
+    for forgeries in (numbers_past_the_limits, entries_past_the_limits, views_that_break_a_rule):
+        for name, forgery in forgeries():
+            s.section = f"forged, refused: {name}"
+            s.add(forgery)
+            every_call(s, 0, 0, 1)
 
 
 def damaged(name, mode=3, pointer=3, shape=FIRST, **counts):
     return name, forged(0, mode, pointer, shape, **counts)
 
 
-EIGHT, FIVE, FOUR = (Shape((1,) * n, tuple(range(n)), 1, (0,), n) for n in (8, 5, 4))
-FAR_APART = tuple(range(0, 512, 8))  # 64 origins
+EIGHT, FOUR = in_a_row(8, 1), in_a_row(4, 1)
+PAST_EXTENTS = (0, MEGA + 1, 2 * MEGA, 2**32 + 1, ALL_ONES)
 
 
-def forgeries_at_the_limits():
-    """Handles in slot 0 that break one limit each by as little as can be. Mode 0 has its rows at open."""
-    yield damaged("mode 4", mode=4)
-    yield damaged("pointer 2^32 + 1", pointer=2**32 + 1)
-    yield damaged("view displacement 2^40 + 1", shape=replace(FIRST, displacement=2**40 + 1))
-    yield from (damaged(f"{n} entries", shape=EIGHT, entries=n) for n in (0, 9))
-    yield from (damaged(f"{k} instances", shape=replace(BYTES, origins=FAR_APART, filetype_extent=512), instances=k) for k in (0, 65))
-    yield damaged("264 entries", shape=replace(EIGHT, origins=FAR_APART, filetype_extent=512), instances=33)
-    yield from (damaged(f"width {w}", shape=Shape((w,), (0,), 8, (0,), 16)) for w in (0, 9))
-    yield damaged("etype displacement", shape=Shape((4,), (MEGA - 3,), 4, (0,), 4))
-    yield damaged("origin", shape=Shape((4,), (4,), 1, (MEGA - 7,), 4))
-    yield from (damaged(f"etype extent {e}", shape=replace(BYTES, etype_extent=e)) for e in (0, MEGA + 1))
-    yield from (damaged(f"filetype extent {f}", shape=replace(BYTES, filetype_extent=f)) for f in (0, MEGA + 1))
-    yield damaged("overlap with the next tile", mode=3, shape=words((0, 4), 4))
-
-
-def other_forgeries():
-    yield damaged("mode 2^64 - 1", mode=ALL_ONES)
-    yield damaged("pointer 2^64 - 1", pointer=ALL_ONES)
-    yield damaged("view displacement 2^64 - 1", shape=replace(FIRST, displacement=ALL_ONES))
-    yield damaged("2^64 - 1 entries", shape=EIGHT, entries=ALL_ONES)
-    yield damaged("2^64 - 1 instances", shape=BYTES, instances=ALL_ONES)
-    yield damaged("260 entries", shape=replace(FIVE, origins=FAR_APART, filetype_extent=512), instances=52)
+def numbers_past_the_limits():
+    """Handles in slot 0 that break one limit each: of the mode, the pointer, the displacement, the counts, the extents."""
+    yield from (damaged(f"mode {mode}", mode=mode) for mode in (0, 4, 5, 6, 7, 2**32 + 1, ALL_ONES))
+    yield from (damaged(f"pointer {pointer}", pointer=pointer) for pointer in (2**32 + 1, 2**33, 2**63, ALL_ONES))
+    yield from (damaged(f"view displacement {d}", shape=replace(FIRST, displacement=d)) for d in (2**40 + 1, 2**41, 2**63, ALL_ONES))
+    yield from (damaged(f"{n} entries", shape=EIGHT, entries=n) for n in (0, 9, 10, 16, 2**32 + 1, ALL_ONES))
+    for n, most in MOST_INSTANCES.items():
+        shape = replace(in_a_row(n, 64), filetype_extent=65 * n)
+        yield from (damaged(f"{n} times {k} entries", shape=shape, instances=k) for k in sorted({0, most + 1, 65}))
+    yield from (damaged(f"{k} instances", shape=BYTES, instances=k) for k in (128, 2**32 + 1, ALL_ONES))
     yield damaged("8 times 2^61 entries", shape=EIGHT, instances=2**61)
     yield damaged("4 times 2^62 + 1 entries", shape=FOUR, instances=2**62 + 1)
-    yield damaged("width 2^64 - 1", shape=Shape((ALL_ONES,), (0,), 8, (0,), 16))
-    yield damaged("width 3 in the last place", shape=replace(EIGHT, widths=(1,) * 7 + (3,), filetype_extent=16))
-    yield from (damaged(f"etype displacement {d}", shape=Shape((4,), (d,), 4, (0,), 4)) for d in (2**63, 2**64 - 4))
-    yield from (damaged(f"origin {p}", shape=Shape((4,), (4,), 1, (p,), 4)) for p in (2**63, 2**64 - 4))
-    yield damaged("etype extent 2^64 - 1", shape=replace(BYTES, etype_extent=ALL_ONES))
-    yield damaged("filetype extent 2^64 - 1", shape=replace(BYTES, filetype_extent=ALL_ONES))
-    yield from (damaged(f"width {w}", shape=Shape((w,), (0,), 8, (0,), 16)) for w in (3, 2**32 + 4))
+    yield from (damaged(f"etype extent {e}", shape=replace(BYTES, etype_extent=e)) for e in PAST_EXTENTS)
+    yield from (damaged(f"filetype extent {f}", mode=1, shape=replace(BYTES, filetype_extent=f)) for f in PAST_EXTENTS)
+
+
+def entries_past_the_limits():
+    """Handles in slot 0 with one width or displacement that is not allowed."""
+    eight = Shape((8,) * 8, tuple(range(0, 64, 8)), 64, (0,), 64)
+    yield from (damaged(f"width {w}", shape=Shape((w,), (0,), 8, (0,), 256)) for w in BAD_WIDTHS)
+    yield from (damaged(f"width 6 in place {i}", shape=replace(eight, widths=one_changed(eight.widths, i, 6))) for i in range(8))
+    yield from (damaged(f"etype displacement, width {w}", shape=Shape((w,), (MEGA - w + 1,), 8, (0,), 8)) for w in GOOD_WIDTHS)
+    yield from (damaged(f"origin, width {w}", shape=Shape((w,), (0,), 1, (MEGA - w + 1,), 8)) for w in GOOD_WIDTHS)
+    yield damaged("origin and etype displacement", shape=Shape((4,), (4,), 1, (MEGA - 7,), 4))
+    yield damaged("last origin", shape=replace(BYTES, origins=tuple(range(63)) + (MEGA,), filetype_extent=MEGA))
+    yield from (damaged(f"etype displacement {d}", shape=Shape((4,), (d,), 4, (0,), 4)) for d in (MEGA, 2**63, 2**64 - 4))
+    yield from (damaged(f"origin {p}", shape=Shape((4,), (4,), 1, (p,), 4)) for p in (MEGA, 2**63, 2**64 - 4))
+
+
+def views_that_break_a_rule():
     yield damaged("filetype not ordered", mode=1, shape=Shape((4, 4), (0, 8), 4, (0, 4), 16))
-    yield damaged("etype not ordered", mode=1, shape=Shape((4, 4), (4, 0), 8, (0,), 8))
-    yield damaged("first hole", mode=1, shape=words((2,), 12))
-    yield damaged("last hole", mode=1, shape=words((0,), 6))
-    yield damaged("inner hole", mode=1, shape=words((0, 6), 12))
-    yield damaged("overlap in a tile", mode=2, shape=words((0, 2), 6))
+    yield damaged("origins not ordered", mode=1, shape=replace(BYTES, origins=(1, 0)))
+    yield damaged("etype not ordered", mode=1, shape=Shape((1, 1), (1, 0), 1, (0,), 2))
+    yield damaged("first hole", mode=1, shape=words((1,), 12))
+    yield damaged("last hole", mode=1, shape=words((0,), 5))
+    yield damaged("inner hole", mode=1, shape=words((0, 5), 9))
+    for mode in (2, 3):
+        yield damaged(f"overlap in a tile, mode {mode}", mode=mode, shape=words((0, 3), 7))
+        yield damaged(f"overlap with the next tile, mode {mode}", mode=mode, shape=words((0, 4), 7))
+        yield damaged(f"overlap in the etype, mode {mode}", mode=mode, shape=Shape((4, 4), (0, 3), 8, (0,), 8))
 
 
 def garbage(s):
@@ -539,29 +592,35 @@ def garbage(s):
 def files_that_break_limits(s):
     """Length 2^40 + 1 cannot be had: the script's files have at most 65,536 bytes."""
     s.open(1, 3)
-    for length, size in [(0, 1), (20, 21)]:
+    sizes = [(0, 1), (20, 21), (20, 40), (65536, 65537), (65536, 2**40), (65536, 2**40 + 1), (65536, 2**63), (65536, ALL_ONES)]
+    for length, size in sizes:
         s.section = f"size {size}, length {length}"
         s.add(new_file(1, length, size, 0))
         s.add(end(1, 1), 1)
         for whence in (0, 1, 2, 3):
             s.add(seek(1, 1, 0, whence), 1)
-        for call in (read_at, write_at):
-            s.add(call(1, 1, 0, 0, 0), 1)
-        for call in (read_here, write_here):
-            s.add(call(1, 1, 0, 0), 1)
-        s.owner(1, size, (size, 0))
-    for size in (65537, 2**40, 2**40 + 1, ALL_ONES):
-        s.section = f"size {size}, length 65536"
-        s.add(new_file(1, 65536, size, 0))
-        s.add(end(1, 1), 1)
-    for length in (0, 20, 65536):
+        for count in (0, 1):
+            for call in (read_at, write_at):
+                s.add(call(1, 1, 0, count, count), 1)
+            for call in (read_here, write_here):
+                s.add(call(1, 1, count, count), 1)
+    s.section = "a lookup past the file"
+    s.owner(1, 21, (21, 0))
+
+
+def files_at_the_limits(s):
+    s.open(1, 3)
+    for length in (0, 1, 20, 65536):
         s.section = f"size and length {length}"
         s.add(new_file(1, length, length, 0))
         s.add(end(1, 1), a=length)
-        s.add(seek(1, 1, 0, 2), pointer=length)
+        for offset, whence in [(0, 0), (0, 1), (0, 2)]:
+            s.add(seek(1, 1, offset, whence), pointer=length if whence == 2 else 0)
         s.add(read_here(1, 1, 1, 1), count=0)
         s.add(read_at(1, 1, max(length - 2, 0), 4, 4), count=min(length, 2))
+        s.add(write_at(1, 1, length, 1, 1), 14, pointer=length)
         s.add(write_here(1, 1, 1, 1), 14, pointer=length)
+        s.add(write_at(1, 1, length, 0, 0), count=0, pointer=length, size1=length)
         s.add(write_here(1, 1, 0, 0), count=0, pointer=length, size1=length)
 
 
@@ -577,6 +636,69 @@ def place_offsets(s):
         s.add(place(0, offset), a=2**40 + offset // 3 * 55 + (5, 20, 35)[offset % 3])
     s.set(0, Shape((1,), (0,), 1, (MEGA - 1,), MEGA, 2**40))
     s.add(place(0, 2**32 - 1), a=2**40 + 2**52 - 1)
+
+
+def largest_views():
+    """Views of the largest displacement and filetype extent with the largest origin, and the bytes of the etype at the last offset."""
+    last = 2**40 + 2**52  # one past the last tile's last byte, where a tile has one instance
+    yield "width 1", Shape((1,), (0,), 1, (MEGA - 1,), MEGA, 2**40), last - 1, [last - 1]
+    yield "width 8", Shape((8,), (0,), 8, (MEGA - 8,), MEGA, 2**40), last - 8, range(last - 8, last)
+    yield "a late entry", Shape((1, 8), (0, MEGA - 8), MEGA, (0,), MEGA, 2**40), last - MEGA, [last - MEGA, *range(last - 8, last)]
+    two = 2**40 + 2**51
+    yield "two instances", Shape((1,), (0,), 1, (MEGA - 2, MEGA - 1), MEGA, 2**40), two - 1, [two - 1]
+    many = 2**40 + 2**46
+    yield "64 instances", Shape((1,), (0,), 1, tuple(range(MEGA - 64, MEGA)), MEGA, 2**40), many - 1, [many - 1]
+
+
+def the_largest_views(s):
+    """The place at the largest offset, and the lookups of its bytes, of those one tile further on and of the last 64-bit bytes."""
+    s.add(new_file(0, 40, 40, 28))
+    for name, shape, begin, data in largest_views():
+        for mode, forgery in [(1, False), (3, False), (1, True), (2, True)]:
+            s.section = f"the largest view: {name}, {'forged' if forgery else 'set'} in mode {mode}"
+            if forgery:
+                s.add(forged(0, mode, 2**32, shape, fill=ALL_ONES))
+            else:
+                s.open(0, mode)
+                s.set(0, shape)
+            s.add(place(0, 0), a=2**40 + shape.origins[0])
+            s.add(place(0, 2**32 - 1), a=begin)
+            for offset in (-1, 2**32):
+                s.add(place(0, offset), 12)
+            s.add(end(0, 0), a=0)
+            if mode == 1:
+                s.add(reverse(0, ALL_ONES), 11)
+                s.add(read_at(0, 0, 2**32 - 1, 1, 16), count=0)
+                continue
+            s.add(write_at(0, 0, 2**32 - 1, 1, 16), 14)
+            for index, byte in enumerate(data):
+                s.owner(0, byte, (2**32 - 1, index))
+                s.owner(0, byte + MEGA)
+            for byte in (0, 2**40 - 1, 2**63, 2**64 - MEGA, *range(2**64 - 8, 2**64)):
+                s.owner(0, byte)
+
+
+def offsets_at_the_limits(s):
+    """Each call that takes an offset, or begins at the pointer, on both sides of the limits; three instances in a tile."""
+    last, shape = 2**32 - 1, Shape((2,), (0,), 2, (0, 2, 4), 6)
+    s.add(new_file(0, 40, 30, 29))
+    for pointer in (0, last, 2**32):
+        s.section = f"offsets at the limits, pointer {pointer}"
+        s.add(forged(0, 3, pointer, shape), pointer=pointer)
+        for offset, refusal in [(-1, 12), (0, 0), (last, 0), (2**32, 12), (2**32 + 1, 12), (2**33, 12)]:
+            s.add(place(0, offset), refusal, a=0 if refusal else offset // 3 * 6 + offset % 3 * 2)
+        for offset, count, refusal in [(-1, 0, 12), (-1, 1, 12), (0, 0, 0), (last - 1, 2, 0), (last - 1, 3, 12), (last, 0, 0), (last, 1, 0),
+                                       (last, 2, 12), (2**32, 0, 0), (2**32, 1, 12), (2**32 + 1, 0, 12), (2**33, 0, 12)]:
+            s.add(read_at(0, 0, offset, count, 8), refusal, count=0, pointer=pointer)
+            s.add(write_at(0, 0, offset, count, 8), refusal or (14 if count else 0), count=0, pointer=pointer)
+        room = 2**32 - pointer
+        for count, refusal in [(room + 1, 12), (2 * room + 1, 12), (room, 13 if room > 1 else 0)]:
+            s.add(read_here(0, 0, count, 2), refusal, count=0, pointer=pointer)
+            s.add(write_here(0, 0, count, 2), 14 if count == 1 and not refusal else refusal, count=0, pointer=pointer)
+        s.add(seek(0, 0, room, 1), pointer=2**32)
+        s.add(seek(0, 0, 1, 1), 12, pointer=2**32)
+        s.add(seek(0, 0, -2**32, 1), pointer=0)
+        s.add(seek(0, 0, -1, 1), 12, pointer=0)
 
 
 def ends_of_file(s):
@@ -605,7 +727,7 @@ def seeks(s):
     for whence, offsets in refused.items():
         for offset in offsets + (LARGEST, SMALLEST):
             s.add(seek(0, 0, offset, whence), 12, pointer=7)
-    for whence in (3, 4, 2**32, ALL_ONES):
+    for whence in (3, 4, 5, 2**32, 2**32 + 1, 2**63, ALL_ONES):
         s.add(seek(0, 0, 0, whence), 15, pointer=7)
         s.add(seek(0, 0, SMALLEST, whence), 15, pointer=7)
     for whence, offsets in granted.items():
@@ -660,6 +782,46 @@ def read_sizes(s):
     s.set(0, words((0, 8), 4))  # a later word fits, the next one does not
     s.add(file_record(0, 11))
     s.add(read_at(0, 0, 0, 3, 12), count=1)
+
+
+def reaching_etypes():
+    """Views from byte 5 on whose etype has an earlier entry that reaches past the last: the begins, and the bytes from a begin on."""
+    long_first = [0, 1, 2, 3, 4, 5, 6, 7, 2]
+    yield "widths 8, 1 at 0, 2", Shape((8, 1), (0, 2), 8, (0, 8), 16, 5), (5, 13, 21, 29), long_first
+    yield "widths 8, 1 at 0, 2, E = 3", Shape((8, 1), (0, 2), 3, (0, 3), 6, 5), (5, 8, 11, 14), long_first
+    yield "widths 1, 4, 2 at 1, 2, 2", Shape((1, 4, 2), (1, 2, 2), 6, (0, 6), 18, 5), (5, 11, 23, 29), [1, 2, 3, 4, 5, 2, 3]
+
+
+def reads_past_the_last_entry(s):
+    """Such an etype is in the file where all its bytes are; the sizes lie on both sides of that and of the last entry's end. It can be set
+    for reading only."""
+    content = made(30, 60)
+    for name, shape, begins, data in reaching_etypes():
+        for forgery in (False, True):
+            s.section = f"read: {name}, {'forged' if forgery else 'set'}"
+            s.add(new_file(0, 60, 60, 30))
+            s.open(0, 1)
+            if forgery:
+                s.add(forged(0, 1, 0, shape))
+            else:
+                s.set(0, shape)
+            s.places(0, begins)
+            s.ends(0, 0, [(begin + more, offset + more) for offset, begin in enumerate(begins[:3]) for more in (0, 1)])
+            ends = [begin + max(data) + 1 for begin in begins[:3]]
+            last_ends = [begin + data[-1] + 1 for begin in begins[:3]]
+            for size in sorted({stop - less for stop in ends + last_ends for less in (0, 1)}):
+                moved = sum(stop <= size for stop in ends)
+                packed = bytes(content[begin + byte] for begin in begins[:moved] for byte in data)
+                buffer = checksum(packed.ljust(30, b"\x07"))
+                s.add(file_record(0, size))
+                s.add(read_at(0, 0, 0, 3, 30, 7), count=moved, pointer=0, lent1=buffer)
+                s.add(read_here(0, 0, 3, 30, 7), count=moved, pointer=moved, lent1=buffer)
+                s.add(seek(0, 0, 0, 0), pointer=0)
+        for mode in (2, 3):
+            s.open(0, mode)
+            s.set(0, shape, 10)
+            s.add(forged(0, mode, 0, shape))
+            every_call(s, 0, 0, 1)
 
 
 def reads_at_the_pointer(s):
@@ -1078,10 +1240,11 @@ def bodies(s):
 
 
 SECTIONS = (p1_to_p3, p4_and_p5, p6_and_p7, p6_for_writing, p8, p9, p10, p11_and_p12, six_errors, opens, set_limits, set_pairs,
-            set_does_not_look_at_the_file, files_that_break_limits, forged_granted, forged_refused, garbage, place_offsets,
-            ends_of_file, seeks, reads_at_an_offset, read_sizes, reads_at_the_pointer, two_handles_on_one_file,
-            writes_at_an_offset, write_growth, write_long_gap, write_gaps, write_lengths, write_orders, two_writes, writes_at_the_pointer,
-            writes_by_mode, writes_by_one_handle, lookups_of_every_byte, lookups_at_the_limits, giving_back, write_pairs, pairs, bodies)
+            set_does_not_look_at_the_file, files_that_break_limits, files_at_the_limits, forged_granted, forged_refused, garbage,
+            place_offsets, the_largest_views, offsets_at_the_limits, ends_of_file, seeks, reads_at_an_offset, read_sizes,
+            reads_past_the_last_entry, reads_at_the_pointer, two_handles_on_one_file, writes_at_an_offset, write_growth, write_long_gap,
+            write_gaps, write_lengths, write_orders, two_writes, writes_at_the_pointer, writes_by_mode, writes_by_one_handle,
+            lookups_of_every_byte, lookups_at_the_limits, giving_back, write_pairs, pairs, bodies)
 CUT = record(38, 1, 0)[:-1]  # the last record lacks a byte
 
 
@@ -1112,12 +1275,18 @@ def row_faults(row, before, numbers):
     return [f"{name} is {numbers[name]}, expected {value}" for name, value in expected.items() if numbers[name] != value]
 
 
+def wrong(rows, lines):
+    """The rows that these lines do not keep, each with its line's numbers and the faults."""
+    before = {name: 0 for name in FILES} | {name: checksum(b"") for name in ("sum0", "sum1")}
+    for row, line in zip(rows, lines):
+        numbers = dict(zip(LINE, map(int, line.split())))
+        found = row_faults(row, before, numbers)
+        if found:
+            yield row, numbers, found
+        before = numbers
+
+
 def faults():
     """Where the model's lines differ from what the rows state."""
-    found, before = [], {name: 0 for name in FILES} | {name: checksum(b"") for name in ("sum0", "sum1")}
-    for row, line in zip(rows(), run(script())):
-        numbers = dict(zip(LINE, map(int, line.split())))
-        for fault in row_faults(row, before, numbers):
-            found.append(f"{row.section}: {decode(row.record[0], row.record[3:])}: {fault}")
-        before = numbers
-    return found
+    return [f"{row.section}: {decode(row.record[0], row.record[3:])}: {fault}"
+            for row, _, found in wrong(rows(), run(script())) for fault in found]
