@@ -6,6 +6,7 @@ The generator runs the model along, so that it can aim calls at the view, pointe
 from dataclasses import replace
 from random import Random
 
+from fixed import bad_names
 from model import OFFSETS, Body, Driver, Rules
 from scripts import (ALL_ONES, LARGEST, SMALLEST, Shape, end, field, file_record, forged, give_back, new_file, open_handle, place, read_at,
                      read_here, record, reverse, seek, set_view, write_at, write_here)
@@ -15,7 +16,7 @@ RECORDS = (480, 620)
 DAMAGES = (2, 3, 4, 5, 6, 7, 8, 9, 9, 10, 10)  # the refusals that a damaged set aims at
 BAD_WIDTHS = (0, 3, 5, 6, 7, 9, 16, 2**32 + 1, ALL_ONES)
 BAD_EXTENTS = (0, -1, MEGA + 1, LARGEST, SMALLEST)
-BAD_REPRESENTATIONS = (b"", b"nativ", b"native\0", b"Native", b"nativE", b"external32", b"internal")
+BAD_REPRESENTATIONS = tuple(bad_names())
 
 
 class Shapes:
