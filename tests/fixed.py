@@ -5,9 +5,9 @@ Each row states a record with what document 01 says of its line; `faults` compar
 
 from dataclasses import dataclass, replace
 
-from model import checksum, file_bytes, run
-from scripts import (ALL_ONES, LARGEST, LINE, SMALLEST, Request, Shape, decode, end, field, file_record, forged, give_back, new_file,
-                     open_handle, place, read_at, read_here, record, reverse, seek, set_view, words, write_at, write_here)
+from model import Body, checksum, file_bytes, run
+from scripts import (ALL_ONES, LARGEST, LINE, SMALLEST, Request, Shape, decode, end, field, file_record, fill_up, forged, give_back,
+                     new_file, open_handle, place, read_at, read_here, record, reverse, seek, set_view, words, write_at, write_here)
 
 MEGA = 1_048_576
 BYTES = Shape((1,), (0,), 1, (0,), 1)  # the default view
@@ -34,6 +34,12 @@ def made(seed, count):
     return file_bytes(count, seed)
 
 
+def handle_sum(mode, shape):
+    """The line's checksum of a handle of this mode and view, with 0 in the unused places."""
+    return checksum((mode, shape.displacement, len(shape.widths), *fill_up(shape.widths, 8, 0), *fill_up(shape.displacements, 8, 0),
+                     shape.etype_extent, len(shape.origins), *fill_up(shape.origins, 64, 0), shape.filetype_extent))
+
+
 @dataclass(frozen=True)
 class Row:
     section: str
@@ -49,7 +55,7 @@ class Script:
         self.rows.append(Row(self.section, record, {"refusal": refusal, **expected}))
 
     def open(self, slot, mode):
-        self.add(open_handle(slot, mode), pointer=0)
+        self.add(open_handle(slot, mode), pointer=0, view=handle_sum(mode or 3, BYTES))
 
     def set(self, slot, request, refusal=0, **expected):
         if isinstance(request, Shape):
@@ -242,13 +248,18 @@ def opens(s):
     s.set(3, words((0, 2), 6), 10)
     for mode in (4, 5, 6, 7, 8, 2**32, 2**32 + 1, 2**32 + 3, 2**63, ALL_ONES):
         s.section = f"refused open, mode {mode}"
-        s.add(open_handle(3, mode), 16, pointer=0)
+        s.add(open_handle(3, mode), 16, pointer=0, view=handle_sum(0, BYTES))
         s.add(place(3, 0), 1)
     every_call(s, 3, 0, 1)
     s.open(3, 1)
     s.add(seek(3, 0, 6, 0), pointer=6)
-    s.add(open_handle(3, 4), 16, pointer=0)
+    s.add(open_handle(3, 4), 16, pointer=0, view=handle_sum(0, BYTES))
     s.add(place(3, 0), 1)
+    s.section = "the handle after a set"
+    for mode in (1, 2, 3):
+        for shape in (PARTS, in_a_row(8, 32), in_a_row(1, 64), LOOSE):
+            s.open(3, mode)
+            s.set(3, shape, pointer=0, view=handle_sum(mode, shape))
 
 
 # The limits in set
@@ -1260,30 +1271,42 @@ def script():
 
 
 FILES = ("size0", "sum0", "size1", "sum1")
+NO_FILES = {"size0": 0, "sum0": checksum(b""), "size1": 0, "sum1": checksum(b"")}
+REFUSED_OPEN = {"pointer": 0, "view": handle_sum(0, BYTES)}  # what each slot has at first
 
 
-def stays(before, numbers):
-    """What a line must have whatever its row states: a refusal has no other number, and only a granted write changes a file."""
-    kept = {name: 0 for name in ("count", "a", "b", "c", "d", "e")} if numbers["refusal"] else {}
-    if numbers["tag"] not in (32, 33) and (numbers["refusal"] or numbers["tag"] not in (43, 44)):
+def stays(before, handle, numbers):
+    """What a line must have whatever its row states; `before` is the line before, `handle` what the slot has.
+
+    A refusal has no other number and leaves the handle. Only a granted write changes a file, only open and a granted set the mode and the
+    view, and only these, seeks and the accesses at the pointer the pointer."""
+    tag, refused = numbers["tag"], numbers["refusal"] != 0
+    kept = {name: 0 for name in ("count", "a", "b", "c", "d", "e")} if refused else {}
+    if tag not in (32, 33) and (refused or tag not in (43, 44)):
         kept |= {name: before[name] for name in FILES}
+    if tag > 35 and (refused or tag != 36):
+        kept["view"] = handle["view"]
+    if tag > 35 and (refused or tag not in (36, 40, 42, 44)):
+        kept["pointer"] = handle["pointer"]
     return kept
 
 
-def row_faults(row, before, numbers):
-    expected = row.expected | stays(before, numbers)
+def row_faults(row, before, handle, numbers):
+    expected = row.expected | stays(before, handle, numbers)
     return [f"{name} is {numbers[name]}, expected {value}" for name, value in expected.items() if numbers[name] != value]
 
 
 def wrong(rows, lines):
     """The rows that these lines do not keep, each with its line's numbers and the faults."""
-    before = {name: 0 for name in FILES} | {name: checksum(b"") for name in ("sum0", "sum1")}
+    before, handles = NO_FILES, [REFUSED_OPEN] * 4
     for row, line in zip(rows, lines):
-        numbers = dict(zip(LINE, map(int, line.split())))
-        found = row_faults(row, before, numbers)
+        numbers, slot = dict(zip(LINE, map(int, line.split()))), Body(row.record[3:]).number(0) % 4
+        found = row_faults(row, before, handles[slot], numbers)
         if found:
             yield row, numbers, found
         before = numbers
+        if numbers["tag"] not in (32, 33):
+            handles[slot] = numbers
 
 
 def faults():
