@@ -4,17 +4,16 @@ use Rattle.file.specs.declared.Handle.{Handle}
 use Rattle.handle.specs.declared.FileRecord.{FileRecord}
 use Rattle.file.specs.declared.SetViewAnswer.{SetViewAnswer}
 use Rattle.bench_rounds.specs.declared.Last.{Last}
-use Rattle.file.specs.declared.ReadAnswer.{ReadAnswer}
-use Rattle.file.specs.declared.WriteAnswer.{WriteAnswer}
-use Rattle.file.specs.Answers.{ReadAt, WriteAt}
-use Rattle.bench_rounds.specs.Rounds.{Round, viewSet, afterSet, begun, lastOf, readAfter, writeAfter, Left}
+use Rattle.file.specs.declared.AccessAnswer.{AccessAnswer}
+use Rattle.file.specs.Parts.{ReadAt, WriteAt}
+use Rattle.bench_rounds.specs.Parts.{Round, bodySet, afterSet, begun, lastOf, readAfter, writeAfter, Left}
 
 -- ---- before the first round
 
 abbrev lastOfSet : SetViewAnswer → ℕ → Last
 lastOfSet a size = record { refusal = a .refusal; handle = a .handle; file = record { size = size } }
 
-pub after-set-is : (view : List ℕ) (size : ℕ) (a : SetViewAnswer) → a ≡ viewSet view → lastOfSet a size ≡ afterSet view size
+pub after-set-is : (view : List ℕ) (size : ℕ) (a : SetViewAnswer) → a ≡ bodySet view → lastOfSet a size ≡ afterSet view size
 unfolding afterSet
 after-set-is view size a e = ap (λ (z : SetViewAnswer). lastOfSet z size) e
 
@@ -71,13 +70,13 @@ module _ (held access : Round → Round) (s : Round) (n i r : ℕ) (h : Handle) 
 -- ---- a read and a write, by the parts of what a round leaves
 
 module _ (c : ℕ) (o : ℤ) (r : ℕ) (h : Handle) (f : FileRecord) (b b' : List ℕ) where
-  pub read-is : (file : List ℕ) (a : ReadAnswer) → ReadAt h file f o c b b' a → round (a .refusal) (a .handle) (a .file) b' ≡ readAfter file c o (round r h f b)
+  pub read-round : (file : List ℕ) (a : AccessAnswer) → ReadAt h file f o c b b' a → round (a .refusal) (a .handle) (a .file) b' ≡ readAfter file c o (round r h f b)
   unfolding readAfter
-  read-is file a w = λ x. let y = w .answer x in round (y .refusal) (y .handle) (y .file) (w .buffer x)
+  read-round file a w = λ x. let y = w .answer x in round (y .refusal) (y .handle) (y .file) (w .buffer x)
 
-  pub write-is : (buffer : List ℕ) (a : WriteAnswer) → WriteAt h b b' f o c buffer a → round (a .refusal) (a .handle) (a .file) b' ≡ writeAfter buffer c o (round r h f b)
+  pub write-round : (buffer : List ℕ) (a : AccessAnswer) → WriteAt h b b' f o c buffer a → round (a .refusal) (a .handle) (a .file) b' ≡ writeAfter buffer c o (round r h f b)
   unfolding writeAfter
-  write-is buffer a w = λ x. let y = w .answer x in round (y .refusal) (y .handle) (y .file) (w .bytes x)
+  write-round buffer a w = λ x. let y = w .answer x in round (y .refusal) (y .handle) (y .file) (w .bytes x)
 
 -- the code holds the offset's bits
 module _ (l : List ℕ) (c : ℕ) (o : ℤ) (fits : SFits w64 o) where
@@ -87,4 +86,4 @@ module _ (l : List ℕ) (c : ℕ) (o : ℤ) (fits : SFits w64 o) where
   pub write-held : writeAfter l c (toZ w64 (ofZ w64 o)) ≡ writeAfter l c o
   write-held = ap (writeAfter l c) (toZ-ofZ fits)
 
-pub ruleset making = (needs, made-none, made-more, read-is, write-is, made-refused, made-end, read-held, write-held)
+pub ruleset making = (needs, made-none, made-more, read-round, write-round, made-refused, made-end, read-held, write-held)

@@ -3,8 +3,7 @@
 ghost use mathlib.Core.Path.{_≡_};
 ghost use Prim.Native.Nat.{_≤_};
 ghost use lib.ListN.{length, drop};
-ghost use Rattle.bench_rounds.specs.Body.{listLength, viewOfLists};
-ghost use Rattle.bench_rounds.specs.Rounds.{setFresh, viewSet, afterSet, readRounds, writeRounds, Left};
+ghost use Rattle.bench_rounds.specs.Parts.{listLength, bodyView, setFresh, bodySet, afterSet, readRounds, writeRounds, Left};
 use file::FileRecord;
 use file::Handle;
 use file::SetViewAnswer;
@@ -41,7 +40,7 @@ fn set_lists(
     fd: &[i64],
 ) -> SetViewAnswer
     requires { ⌜ rest ≤ length (now body) ⌝ }
-    ensures { λ r. ⌜ r ≡ setFresh (drop rest (now (body .entry))) (viewOfLists (now (body .entry)) (now (ew .entry)) (now (ed .entry)) (now (fw .entry)) (now (fd .entry))) ⌝ }
+    ensures { λ r. ⌜ r ≡ setFresh (drop rest (now (body .entry))) (bodyView (now (body .entry)) (now (ew .entry)) (now (ed .entry)) (now (fw .entry)) (now (fd .entry))) ⌝ }
 {
     let d = tagged_fields::signed_at(body, 1);
     let ex = tagged_fields::signed_at(body, 2);
@@ -53,7 +52,7 @@ fn set_lists(
 
 // Opens a handle with mode 3 and sets the view that the body describes.
 fn set_view(view: &[u8]) -> SetViewAnswer
-    ensures { λ r. ⌜ r ≡ viewSet (now (view .entry)) ⌝ }
+    ensures { λ r. ⌜ r ≡ bodySet (now (view .entry)) ⌝ }
 {
     let n1 = list_length(view, 4);
     let n2 = list_length(view, 5);

@@ -3,7 +3,7 @@ use Rattle.laws.proofs.Prelude.{ℕ, _≡_, sym, ap, _∙_, Bool, List, length,
 use Rattle.view.specs.declared.View.{View}
 use Rattle.view.specs.Modes.{allowsReading}
 use Rattle.handle.specs.declared.FileRecord.{FileRecord}
-use Rattle.handle.specs.Handles.{paperHandle}
+use Rattle.handle.specs.Parts.{paperHandle}
 use Rattle.move_read.specs.Parts.{Movable, ReadDone}
 use Rattle.call_checks.specs.Refusals.{accessRefusal, readRefusal}
 use Rattle.call_checks.proofs.Accesses.{access-movable}

@@ -7,9 +7,10 @@ use Rattle.view.specs.Types.{PaperView, paper, whole}
 use Rattle.view.specs.Places.{dataSize}
 use Rattle.handle.specs.declared.FileRecord.{FileRecord}
 use Rattle.handle.specs.Ranges.{accessAllowed}
-use Rattle.handle.specs.Handles.{PaperHandle, fileValid, paperHandle}
-use Rattle.move_read.specs.Moves.{fileByte, writeEnd}
-use Rattle.move_read.specs.Parts.{Ranged}
+use Rattle.handle.specs.Handles.{PaperHandle, fileValid}
+use Rattle.handle.specs.Parts.{paperHandle}
+use Rattle.move_read.specs.Moves.{fileByte}
+use Rattle.move_read.specs.Parts.{writeEnd, Ranged}
 use Rattle.move_write.specs.Parts.{Storable, Growable, Grown}
 use Rattle.move_write.proofs.Scattering.{write-done}
 use Rattle.call_checks.specs.Refusals.{accessRefusal, writeRefusal}

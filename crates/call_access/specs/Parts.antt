@@ -1,4 +1,4 @@
--- What the functions of this crate answer and leave. A reader need not believe these: the contracts of the calls cite file/specs/Answers.antt, and the proofs show that these make them up.
+-- Need not be believed. What the functions of this crate answer and leave: the answers of the calls, file/specs/Parts.antt, are shown to be made up of these.
 use Prim.Native.Nat.{ℕ}
 use mathlib.Core.List.{List}
 use mathlib.Core.Path.{_≡_}
@@ -9,7 +9,7 @@ use Rattle.view.specs.declared.BytePos.{BytePos}
 use Rattle.view.specs.Types.{whole}
 use Rattle.handle.specs.declared.FileRecord.{FileRecord}
 use Rattle.handle.specs.Handles.{PaperHandle, withSize}
-use Rattle.move_read.specs.Moves.{moved, readInto, writeEnd, newSize, written}
+use Rattle.move_read.specs.Parts.{moved, readInto, writeEnd, newSize, written}
 use Rattle.call_checks.specs.Refusals.{readRefusal, writeRefusal}
 use Rattle.call_access.specs.declared.ReadOutcome.{ReadOutcome}
 use Rattle.call_access.specs.declared.WriteOutcome.{WriteOutcome}

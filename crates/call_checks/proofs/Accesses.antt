@@ -2,16 +2,15 @@
 use Rattle.laws.proofs.Prelude.{ℕ, _+_, _*_, _≤_, _<_, _≡_, _∙_, Bool, true, false, not, List, arith, ℤ, leb, lit<, w64, Fits, leb-true, le-leb, lt-leb, check-inv, unflag-true, Passes, ends-here, check-passes}
 use Rattle.view.specs.declared.View.{View}
 use Rattle.view.specs.Types.{paper, whole}
-use Rattle.view.specs.Rules.{Valid}
+use Rattle.view.specs.Acceptance.{Valid}
 use Rattle.view.specs.Places.{dataSize}
-use Rattle.view.specs.Numbers.{viewWith}
-use Rattle.view.specs.Etypes.{WidthsValid, sizeOf}
+use Rattle.view.specs.Parts.{viewWith, WidthsValid, sizeOf}
 use Rattle.view.proofs.Etypes.{widths-valid}
 use Rattle.handle.specs.declared.HandleNumbers.{HandleNumbers}
 use Rattle.handle.specs.declared.FileRecord.{FileRecord}
 use Rattle.handle.specs.Ranges.{accessAllowed}
-use Rattle.handle.specs.Handles.{PaperHandle, fileValid, paperHandle}
-use Rattle.handle.specs.Parts.{handleWith}
+use Rattle.handle.specs.Handles.{PaperHandle, fileValid}
+use Rattle.handle.specs.Parts.{paperHandle, handleWith}
 use Rattle.handle.proofs.Ranging.{access-sum, access-offset, bytes-fit}
 use Rattle.move_read.specs.Parts.{Movable}
 use Rattle.move_read.proofs.Etypes.{entries-valid, data-is, data-small}

@@ -1,7 +1,7 @@
 -- Check 1, and what it leaves: the view is valid, and pointer and file are within their limits.
 use Rattle.laws.proofs.Prelude.{ℕ, _≤_, _<_, _≡_, sym, _∙_, Bool, true, false, not, arith, leb-true, lt-leb, also, also-inv, also-first, also-false, unflag-true, unflag-false}
 use Rattle.view.specs.Limits.{pointerAllowed, fileAllowed}
-use Rattle.view.specs.Rules.{accepted, Valid}
+use Rattle.view.specs.Acceptance.{accepted, Valid}
 use Rattle.view.proofs.Accepted.{accepted-valid}
 use Rattle.handle.specs.declared.FileNumbers.{FileNumbers}
 use Rattle.handle.specs.declared.FileRecord.{FileRecord}

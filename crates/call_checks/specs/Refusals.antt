@@ -1,4 +1,4 @@
--- Document 01, "Refusal numbers": for each call its checks in its order. A list, a buffer and a file come as their lengths.
+-- Must be believed. Document 01, "Refusal numbers": for each call its checks in its order. A list, a buffer and a file come as their lengths.
 use Prim.Native.Nat.{ℕ, _*_}
 use mathlib.Core.Bool.{Bool, cond}
 use mathlib.Core.List.{List}
@@ -8,13 +8,13 @@ use Rattle.laws.specs.Checks.{also, check}
 use Rattle.view.specs.Limits.{offsetAllowed}
 use Rattle.view.specs.Modes.{allowsReading, allowsWriting}
 use Rattle.view.specs.Types.{PaperView, entries, whole}
-use Rattle.view.specs.Rules.{setRefusal}
+use Rattle.view.specs.Acceptance.{setRefusal}
 use Rattle.view.specs.Places.{dataSize}
-use Rattle.view.specs.End.{endOfFile}
+use Rattle.view.specs.Parts.{endOfFile}
 use Rattle.handle.specs.declared.FileRecord.{FileRecord}
 use Rattle.handle.specs.Ranges.{targetAllowed, accessAllowed}
 use Rattle.handle.specs.Handles.{PaperHandle, handleValid, fileValid}
-use Rattle.move_read.specs.Moves.{writeEnd}
+use Rattle.move_read.specs.Parts.{writeEnd}
 
 -- open: 16 only
 unfoldable pub openRefusal : ℕ → ℕ

@@ -1,11 +1,11 @@
 -- Giving back: what its checks leave for the function that fills the lists, and the lists after it.
 use Rattle.laws.proofs.Prelude.{ℕ, _≤_, _≡_, refl, sym, Bool, true, false, not, List, length, ℤ, leb, lit<, leb-true, also, granted, also-inv, check-yes, check-no, check-inv, unflag-true, unflag-false}
 use Rattle.view.specs.Types.{paper, entries}
-use Rattle.view.specs.Rules.{Valid}
-use Rattle.view.specs.Numbers.{viewWith}
+use Rattle.view.specs.Acceptance.{Valid}
+use Rattle.view.specs.Parts.{viewWith}
 use Rattle.view.proofs.Held.{few-entries, record-few}
 use Rattle.view.proofs.Paper.{paper-entries, paper-file-entries}
-use Rattle.view_typemap.specs.Typemaps.{Ready, TypemapsFilled, widthsFilled, displacementsFilled}
+use Rattle.view_typemap.specs.Parts.{Ready, TypemapsFilled, widthsFilled, displacementsFilled}
 use Rattle.handle.specs.declared.HandleNumbers.{HandleNumbers}
 use Rattle.handle.specs.Parts.{listsLong, handleWith}
 use Rattle.handle.specs.Handles.{PaperHandle, handleValid}

@@ -7,11 +7,10 @@ use Rattle.view.specs.declared.Owner.the-variants.{Nobody}
 use Rattle.view.specs.Limits.{offsetAllowed}
 use Rattle.view.specs.Modes.{allowsWriting}
 use Rattle.view.specs.Types.{paper, whole}
-use Rattle.view.specs.Rules.{Valid}
-use Rattle.view.specs.Numbers.{viewWith}
-use Rattle.view.specs.Owners.{ownerOf}
-use Rattle.view_place.specs.Spots.{Tiled, OriginsLow, placeOn, endOn}
-use Rattle.view_place.proofs.Laid.{tiled, origins-low, place-is, end-is}
+use Rattle.view.specs.Acceptance.{Valid}
+use Rattle.view.specs.Parts.{viewWith, ownerOf}
+use Rattle.view_place.specs.Parts.{Tiled, OriginsLow, placeOn, endOn}
+use Rattle.view_place.proofs.Laid.{tiled, origins-low, place-is, end-on-is}
 use Rattle.handle.specs.declared.HandleNumbers.{HandleNumbers}
 use Rattle.handle.specs.declared.FileRecord.{FileRecord}
 use Rattle.handle.specs.Handles.{handleValid, fileValid}
@@ -85,4 +84,4 @@ module _ (h : HandleNumbers) (ws ds ps : List ℕ) (len : ℕ) (r : FileRecord) 
 
     pub end-found : (e : Offset) → e .0 ≡ pos (endOn (h .view) ps (r .size)) → EndFound (handleWith h ws ds ps) len r (record { refusal = 0; end = e })
     unfolding endRefusal granted
-    end-found e y = record { refusal = check-yes _ 1 _ 0 (unflag-true t _ k n) refl; end = y ∙ ap pos (end-is (viewWith (h .view) ws ds ps) end-valid (r .size)) }
+    end-found e y = record { refusal = check-yes _ 1 _ 0 (unflag-true t _ k n) refl; end = y ∙ ap pos (end-on-is (viewWith (h .view) ws ds ps) end-valid (r .size)) }

@@ -2,17 +2,16 @@
 use Rattle.laws.proofs.Prelude.{granted, ℕ, _≤_, _<_, _≡_, refl, sym, ap, _∙_, Bool, true, false, not, cond, List, ℤ, pos, _+ℤ_, eqb, w64, SFits, toZ, ofZ, toZ-ofZ, eq-eqb, ne-eqb, le-leb, lt-leb, check-yes, check-no, cond-yes, cond-no, unflag-true, unflag-false}
 use Rattle.view.specs.declared.Offset.{Offset}
 use Rattle.view.specs.Types.{paper, whole}
-use Rattle.view.specs.Rules.{Valid}
-use Rattle.view.specs.End.{endOfFile}
-use Rattle.view.specs.Numbers.{viewWith}
-use Rattle.view_place.specs.Spots.{endOn}
-use Rattle.view_place.proofs.Laid.{end-is}
+use Rattle.view.specs.Acceptance.{Valid}
+use Rattle.view.specs.Parts.{endOfFile, viewWith}
+use Rattle.view_place.specs.Parts.{endOn}
+use Rattle.view_place.proofs.Laid.{end-on-is}
 use Rattle.handle.specs.declared.HandleNumbers.{HandleNumbers}
 use Rattle.handle.specs.declared.FileRecord.{FileRecord}
 use Rattle.handle.specs.declared.Target.{Target}
-use Rattle.handle.specs.Ranges.{targetAllowed, targetAt}
+use Rattle.handle.specs.Ranges.{targetAllowed}
+use Rattle.handle.specs.Parts.{targetAt, handleWith}
 use Rattle.handle.specs.Handles.{fileValid}
-use Rattle.handle.specs.Parts.{handleWith}
 use Rattle.handle.proofs.Ranging.{zero-plus}
 use Rattle.call_query.specs.declared.SeekOutcome.{SeekOutcome}
 use Rattle.call_checks.specs.Refusals.{seekTarget, seekRefusal}
@@ -56,7 +55,7 @@ module _ (h : HandleNumbers) (ws ds ps : List ℕ) (len : ℕ) (r : FileRecord) 
   module _ (z : ℤ) (whence : ℕ) where
     target-is : Valid (paper (viewWith (h .view) ws ds ps)) → seekTarget (handleWith h ws ds ps) r z whence ≡ pos (baseOn h ps r whence) +ℤ z
     unfolding seekTarget baseOn
-    target-is v = rw (end-is (viewWith (h .view) ws ds ps) v (r .size)) (picked (eqb whence 0) (eqb whence 1) (h .pointer) (endOfFile (paper (viewWith (h .view) ws ds ps)) (r .size)) z)
+    target-is v = rw (end-on-is (viewWith (h .view) ws ds ps) v (r .size)) (picked (eqb whence 0) (eqb whence 1) (h .pointer) (endOfFile (paper (viewWith (h .view) ws ds ps)) (r .size)) z)
 
     -- ---- the answer
 

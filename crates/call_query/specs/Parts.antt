@@ -1,4 +1,4 @@
--- What the functions of this crate answer. A reader need not believe these: the contracts of the calls cite file/specs/Answers.antt, and the proofs show that these make them up.
+-- Need not be believed. What the functions of this crate answer: the answers of the calls, file/specs/Parts.antt, are shown to be made up of these.
 use Prim.Native.Nat.{ℕ}
 use mathlib.Core.Bool.{cond}
 use mathlib.Core.List.{List}
@@ -10,10 +10,9 @@ use Rattle.laws.specs.Checks.{granted}
 use Rattle.view.specs.declared.Owner.the-variants.{Nobody}
 use Rattle.view.specs.Types.{whole}
 use Rattle.view.specs.Places.{place}
-use Rattle.view.specs.Owners.{ownerOf}
-use Rattle.view.specs.End.{endOfFile}
-use Rattle.view_place.specs.Spots.{endOn}
-use Rattle.view_typemap.specs.Typemaps.{widthsFilled, displacementsFilled}
+use Rattle.view.specs.Parts.{ownerOf, endOfFile}
+use Rattle.view_place.specs.Parts.{endOn}
+use Rattle.view_typemap.specs.Parts.{widthsFilled, displacementsFilled}
 use Rattle.handle.specs.declared.HandleNumbers.{HandleNumbers}
 use Rattle.handle.specs.declared.FileRecord.{FileRecord}
 use Rattle.handle.specs.Handles.{PaperHandle}

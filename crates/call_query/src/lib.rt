@@ -4,7 +4,7 @@ ghost use mathlib.Core.Path.{_≡_};
 ghost use Prim.Native.Nat.{_≤_};
 ghost use lib.IntN.{pos};
 ghost use Rattle.view.specs.Limits.{maxFileLength, offsetCount};
-ghost use Rattle.view_place.specs.Spots.{Tiled, OriginsLow};
+ghost use Rattle.view_place.specs.Parts.{Tiled, OriginsLow};
 ghost use Rattle.handle.specs.Parts.{handleWith};
 ghost use Rattle.call_query.specs.Parts.{PlaceFound, OwnerFound, EndFound, baseOn, notSought, Sought, ListsGot};
 use handle::FileNumbers;

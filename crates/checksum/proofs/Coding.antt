@@ -1,6 +1,6 @@
 -- What a signed number counts as, as the code tests and casts it.
 use Rattle.laws.proofs.Prelude.{minus-negative, ℕ, _+_, _^_, _<_, _≡_, refl, ap, _∙_, true, false, true≢false, List, arith, getD, ℤ, pos, negsuc, natAbs, _-ℤ_, T, leb, leb→le, ltZ, nonNeg, mag, w64, Fits, SFits, toZ, ofZ, hbits, toZ-ofZ, needs, sfits-of, not-negative, natural-sign, natural-fits}
-use Rattle.checksum.specs.Checksums.{code}
+use Rattle.checksum.specs.Parts.{code}
 
 -- ---- a number x that is z, as the machine reads it from z's bits
 

@@ -1,6 +1,6 @@
 -- A checksum is taken number by number, and no step wraps.
 use Rattle.laws.proofs.Prelude.{ℕ, _+_, _*_, _/_, _%_, _≤_, _<_, _≡_, refl, sym, ap, _∙_, arith, mul-add-mod-self-right, add-one, needs}
-use Rattle.checksum.specs.Checksums.{modulus, fed, checksumOf}
+use Rattle.checksum.specs.Parts.{modulus, fed, checksumOf}
 
 -- the remainder of s serves as well as s
 pub feed-is : (s x : ℕ) → (s % modulus * 65599 + x % modulus + 1) % modulus ≡ fed s x

@@ -1,6 +1,6 @@
 // The checksums of the conformance driver (docs/conformance.md). Nothing of MPI.
 ghost use mathlib.Core.Path.{_≡_};
-ghost use Rattle.checksum.specs.Checksums.{fed, code, listChecksum, signedChecksum};
+ghost use Rattle.checksum.specs.Parts.{fed, code, listChecksum, signedChecksum};
 
 // The checksum that a run of no numbers has.
 pub const BEGIN: u64 = 7;

@@ -1,5 +1,5 @@
 // Document 01's claim about a set and the giving back after it, as a function that makes both calls and whose contract is the claim, for all inputs.
-ghost use Rattle.rule_lists.specs.Lists.{typeOfLists, viewOfTypes};
+ghost use Rattle.view.specs.Types.{viewOfLists, typemaps};
 ghost use Rattle.claim_view.specs.SetThenGet.{GotAsSet};
 use file::GetViewAnswer;
 use file::Handle;
@@ -26,7 +26,10 @@ pub fn set_then_get(
     gfw: &mut [u64],
     gfd: &mut [i64],
 ) -> SetAndGot
-    ensures { λ r. ⌜ GotAsSet handle (now (representation .entry)) (viewOfTypes displacement (typeOfLists (now (ew .entry)) (now (ed .entry)) ex) (typeOfLists (now (fw .entry)) (now (fd .entry)) fx)) (now (gew .entry)) (now (gew .exit)) (now (ged .entry)) (now (ged .exit)) (now (gfw .entry)) (now (gfw .exit)) (now (gfd .entry)) (now (gfd .exit)) r ⌝ }
+    ensures { λ r. ⌜ GotAsSet handle (now (representation .entry))
+        (viewOfLists displacement (now (ew .entry)) (now (ed .entry)) ex (now (fw .entry)) (now (fd .entry)) fx)
+        (typemaps (now (gew .entry)) (now (ged .entry)) (now (gfw .entry)) (now (gfd .entry)))
+        (typemaps (now (gew .exit)) (now (ged .exit)) (now (gfw .exit)) (now (gfd .exit))) r ⌝ }
 {
     let set = handle.set_view(representation, displacement, ew, ed, ex, fw, fd, fx);
     let changed = set.handle;

@@ -1,5 +1,4 @@
 pub mod Owners
-pub mod Granted
 pub mod Pairs
 pub mod Differing
 pub mod ReadingBack

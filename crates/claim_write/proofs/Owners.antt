@@ -1,17 +1,18 @@
 -- A handle that passes check 1 and allows writing: each file byte belongs to at most one pair of its view, and a granted reverse lookup answers that pair, or none if there is none.
 -- Rests on the laws of the reverse lookup, of a view that is accepted for writing.
-use Rattle.laws.proofs.Prelude.{ℕ, _≡_, sym, ap, _∙_, true, arith, check-inv, granted-yes}
+use Rattle.laws.proofs.Prelude.{ℕ, _≡_, sym, ap, _∙_, true, arith, check-inv, granted-yes, granted-no}
 use Rattle.view.specs.declared.Owner.{Owner}
-use Rattle.view.specs.Rules.{accepted}
+use Rattle.view.specs.Acceptance.{accepted}
 use Rattle.view.specs.Modes.{allowsWriting}
-use Rattle.view.specs.Owners.{OneOwner, Answers, ownerOf}
+use Rattle.view.specs.Owners.{OneOwner, Answers}
+use Rattle.view.specs.Parts.{ownerOf}
 use Rattle.view.proofs.Owning.{one-owner, owner-is, owner-only}
 use Rattle.file.specs.declared.Handle.{Handle}
 use Rattle.file.specs.declared.ReverseAnswer.{ReverseAnswer}
 use Rattle.handle.specs.Handles.{handleValid}
 use Rattle.file.specs.Handles.{onPaper, viewOf}
 use Rattle.call_checks.specs.Refusals.{reverseRefusal}
-use Rattle.file.specs.Answers.{reverseAnswer}
+use Rattle.file.specs.Parts.{reverseAnswer}
 use Rattle.call_checks.proofs.Handles.{held-accepts}
 use Rattle.claim_write.specs.Owners.{LookedUp}
 
@@ -45,13 +46,19 @@ module _ (h : Handle) (z : reverseRefusal (onPaper h) ≡ 0) where
 
 -- the claim, of any answer that the call gives
 module _ (h : Handle) (b : ℕ) (r : ReverseAnswer) (e : r ≡ reverseAnswer h b) where
-  is-granted : r .refusal ≡ 0 → reverseRefusal (onPaper h) ≡ 0
+  number : r .refusal ≡ reverseRefusal (onPaper h)
   unfolding reverseAnswer
-  is-granted z = sym (ap (λ x. x .refusal) e) ∙ z
+  number = ap (λ x. x .refusal) e
+
+  is-granted : r .refusal ≡ 0 → reverseRefusal (onPaper h) ≡ 0
+  is-granted z = sym number ∙ z
 
   pub looked-up : LookedUp h b r
+  unfolding reverseAnswer
   looked-up = record {
-    answer = e;
+    number = number;
+    rest = λ i. record { refusal = r .refusal; count = e i .count; handle = e i .handle; owner = r .owner };
+    refused = λ n. ap (λ x. x .owner) e ∙ granted-no _ _ _ (λ z. n (number ∙ z));
     exact = λ z. rw e (reverse-is h (is-granted z) b);
     only = λ z o a. reverse-only h (is-granted z) b o a ∙ sym (ap (λ x. x .owner) e);
     one = λ z. handle-owner h (passed h (is-granted z) .0) (passed h (is-granted z) .1);

@@ -1,26 +1,30 @@
 -- A granted write and the read after it, at its offset and with its count: the read is granted, moves every etype written, and hands back the counted data.
--- Rests on what a granted write leaves (Granted.antt), and on the movers' laws of a read.
+-- Rests on what a granted write leaves (claim_calls/proofs/Granted.antt), and on the movers' laws of a read.
 use Rattle.laws.proofs.Prelude.{ℕ, _*_, _≤_, _<_, _≡_, refl, sym, ap, _∙_, subst, true, List, ⊎-elim, arith, length, take, ℤ, pos, ext-getD, getD-take, length-take-le, le-leb, lt-or-le, also-true, check-zero, granted-yes}
 use Rattle.view.specs.Limits.{fileAllowed}
 use Rattle.view.specs.Types.{PaperView, whole}
 use Rattle.view.specs.Modes.{allowsReading}
 use Rattle.view.specs.Places.{dataSize}
-use Rattle.move_read.specs.Moves.{AllBelow, moved, readInto, newSize, IsWritten}
+use Rattle.move_read.specs.Moves.{AllBelow, IsWritten}
+use Rattle.move_read.specs.Parts.{moved, readInto, newSize}
 use Rattle.move_read.proofs.Writing.{write-end-is}
 use Rattle.move_read.proofs.Reading.{moved-only, read-is}
-use Rattle.file.specs.declared.ReadAnswer.{ReadAnswer}
-use Rattle.file.specs.declared.WriteAnswer.{WriteAnswer}
+use Rattle.file.specs.declared.AccessAnswer.{AccessAnswer}
 use Rattle.handle.specs.Handles.{fileValid}
-use Rattle.file.specs.Handles.{onPaper, viewOf, pointerOffset}
+use Rattle.file.specs.Handles.{onPaper, viewOf}
+use Rattle.file.specs.Parts.{pointerOffset, readCount, readAtAnswer, readBuffer, ReadAt}
 use Rattle.call_checks.specs.Refusals.{accessRefusal, readRefusal}
-use Rattle.file.specs.Answers.{readCount, readAtAnswer, readBuffer, ReadAt}
 use Rattle.call_checks.proofs.Handles.{held-pointer, file-handle, file-short, file-limit}
 use Rattle.file.proofs.Checking.{start-at}
 use Rattle.file.proofs.Readable.{start-read}
-use Rattle.claim_write.specs.declared.Begin.the-variants.{Pointer}
-use Rattle.claim_write.specs.declared.Write.{Write}
-use Rattle.claim_write.specs.Writes.{beginsAt, offsetOf, Made, countedBytes, Returned, ReadBack}
-use Rattle.claim_write.proofs.Granted.{GrantedWrite, refused-handle, granted-write, new-size}
+use Rattle.claim_calls.specs.declared.Begin.the-variants.{Pointer}
+use Rattle.claim_calls.specs.declared.DataAccess.{DataAccess}
+use Rattle.claim_calls.specs.Offsets.{beginsAt, offsetOf}
+use Rattle.claim_calls.specs.Parts.{WriteCalled}
+use Rattle.claim_calls.specs.Accesses.{Written}
+use Rattle.claim_write.specs.Writes.{countedBytes, readBack, Returned, ReadBack}
+use Rattle.claim_calls.proofs.HavingRead.{read-explicit}
+use Rattle.claim_calls.proofs.Granted.{GrantedWrite, refused-handle, granted-write, new-size}
 use Rattle.claim_write.proofs.Pairs.{pair-counted, pair-lies}
 
 -- ---- a file that was written, whatever asked for it
@@ -36,7 +40,7 @@ module _ (v : PaperView) (size o c : ℕ) where
   all-moved = sym (moved-only v (newSize v size o c) o c c (record { most = omega arith; below = written-below; greatest = λ k l h. l }))
 
   -- and begins the buffer with the data
-  data-back : (buffer file after into : List ℕ) → IsWritten v size o c buffer file after → c * dataSize v ≤ length buffer → c * dataSize v ≤ length into → take (c * dataSize v) (readInto v after o c into) ≡ take (c * dataSize v) buffer
+  data-back : (buffer file after into : List ℕ) → IsWritten v size (newSize v size o c) o c buffer file after → c * dataSize v ≤ length buffer → c * dataSize v ≤ length into → take (c * dataSize v) (readInto v after o c into) ≡ take (c * dataSize v) buffer
   data-back buffer file after into w long room =
       let n = c * dataSize v in
       let s = readInto v after o c into in
@@ -47,13 +51,13 @@ module _ (v : PaperView) (size o c : ℕ) where
 
 -- ---- a write and a read as they are asked for
 
-module _ (w : Write) (before after buffer into into' : List ℕ) (m : WriteAnswer) (n : ReadAnswer) (made : Made w before after buffer m) (read : ReadAt (m .handle) after (m .file) (offsetOf w) (w .count) into into' n) where
+module _ (w : DataAccess) (before after buffer into into' : List ℕ) (m : AccessAnswer) (n : AccessAnswer) (write : Written w before after buffer m) (read : ReadAt (m .handle) after (m .file) (offsetOf w) (w .count) into into' n) where
   module _ (z : m .refusal ≡ 0) (reads : allowsReading (w .handle .mode) ≡ true) (room : countedBytes w ≤ length into) where
     g : GrantedWrite w before after buffer m
-    g = granted-write w before after buffer m made z
+    g = granted-write w before after buffer m (write .made) z
 
     size-is : m .file .size ≡ newSize (viewOf (w .handle)) (w .file .size) (whole (offsetOf w)) (w .count)
-    size-is = new-size w before after buffer m made z
+    size-is = new-size w before after buffer m (write .made) z
 
     -- the new size is within the file, whose length the write leaves
     new-short : m .file .size ≤ length after
@@ -81,24 +85,25 @@ module _ (w : Write) (before after buffer into into' : List ℕ) (m : WriteAnswe
     count-is = granted-yes _ _ 0 read-passes ∙ (λ i. moved (g .same-view i) (size-is i) (whole (offsetOf w)) (w .count)) ∙ all-moved (viewOf (w .handle)) (w .file .size) (whole (offsetOf w)) (w .count)
 
     into-is : into' ≡ readInto (viewOf (w .handle)) after (whole (offsetOf w)) (w .count) into
-    unfolding readBuffer
+    unfolding readBuffer readAtAnswer
     into-is = read .buffer ∙ granted-yes _ _ into read-passes ∙ (λ i. readInto (g .same-view i) after (whole (offsetOf w)) (count-is i) into)
 
     returned : Returned w buffer into' n
     unfolding readAtAnswer countedBytes
     returned = record {
-      granted = ap (λ x. x .refusal) (read .answer) ∙ read-passes;
+      is-granted = ap (λ x. x .refusal) (read .answer) ∙ read-passes;
       count = ap (λ x. x .count) (read .answer) ∙ count-is;
       same = rw into-is (data-back (viewOf (w .handle)) (w .file .size) (whole (offsetOf w)) (w .count) buffer before after into (g .bytes) (g .checks .long) room);
     }
 
   pub read-back : ReadBack w before after buffer into into' (record { written = m; read = n })
-  read-back = record { first = made; second = read; returned = returned }
+  unfolding readBack
+  read-back = record { first = write; second = read-explicit _ after into into' n (record { 0 = offsetOf w }) refl read; returned = returned }
 
 -- ---- where the read begins after a write at the pointer
 
 -- the code takes the offset from the handle before the write, as `pointerOffset` gives it; that is the pointer, or the write was refused and gave the handle back
-module _ (w : Write) (before after buffer into into' : List ℕ) (m : WriteAnswer) (n : ReadAnswer) (made : Made w before after buffer m) (next : w .begin ≡ Pointer) (z : ℤ) (starts : z ≡ pointerOffset (w .handle)) (read : ReadAt (m .handle) after (m .file) z (w .count) into into' n) where
+module _ (w : DataAccess) (before after buffer into into' : List ℕ) (m : AccessAnswer) (n : AccessAnswer) (made : WriteCalled w before after buffer m) (next : w .begin ≡ Pointer) (z : ℤ) (starts : z ≡ pointerOffset (w .handle)) (read : ReadAt (m .handle) after (m .file) z (w .count) into into' n) where
   at-pointer : offsetOf w ≡ pos (w .handle .pointer)
   unfolding offsetOf beginsAt
   at-pointer = ap (beginsAt (w .handle)) next

@@ -1,3 +1,2 @@
 pub mod Owners
 pub mod Writes
-pub mod Parts

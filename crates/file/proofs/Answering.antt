@@ -1,11 +1,9 @@
 -- The answers of the calls that move no data, from what the functions below gave.
 use Rattle.laws.proofs.Prelude.{ℕ, _≤_, _<_, _≡_, refl, sym, ap, _∙_, Bool, false, not, true, List, arith, ℤ, pos, w64, SFits, toZ, ofZ, toZ-ofZ, le-leb, lt-leb, check, granted, check-yes, check-no, granted-yes, granted-no, unflag-true, unflag-false}
 use Rattle.view.specs.declared.Owner.the-variants.{Nobody}
-use Rattle.view.specs.Types.{PaperView, whole}
-use Rattle.view.specs.Rules.{recordOf}
+use Rattle.view.specs.Types.{PaperView, whole, viewOfLists}
+use Rattle.view.specs.Parts.{recordOf, ownerOf, endOfFile}
 use Rattle.view.specs.Places.{place}
-use Rattle.view.specs.Owners.{ownerOf}
-use Rattle.view.specs.End.{endOfFile}
 use Rattle.handle.specs.declared.FileRecord.{FileRecord}
 use Rattle.handle.specs.Handles.{handleValid}
 use Rattle.call_checks.specs.Refusals.{openRefusal, setViewRefusal, seekTarget, seekRefusal}
@@ -14,16 +12,14 @@ use Rattle.call_query.specs.declared.OwnerOutcome.{OwnerOutcome}
 use Rattle.call_query.specs.declared.EndOutcome.{EndOutcome}
 use Rattle.call_query.specs.declared.SeekOutcome.{SeekOutcome}
 use Rattle.call_query.specs.Parts.{PlaceFound, OwnerFound, EndFound, Sought}
-use Rattle.rule_lists.specs.Lists.{typeOfLists, viewOfTypes}
-use Rattle.rule_set.specs.Answers.{acceptAnswer, AcceptedAs}
+use Rattle.rule_set.specs.Parts.{acceptAnswer, AcceptedAs}
 use Rattle.rule_set.specs.declared.Accepted.{Accepted}
 use Rattle.file.specs.declared.Handle.{Handle}
 use Rattle.file.specs.declared.OpenAnswer.{OpenAnswer}
 use Rattle.file.specs.declared.SetViewAnswer.{SetViewAnswer}
 use Rattle.file.specs.declared.SeekAnswer.{SeekAnswer}
-use Rattle.file.specs.Parts.{openAs, setViewAs, seekRefused}
-use Rattle.file.specs.Handles.{onPaper, viewOf, freshHandle, modeGot, withView, withPointer}
-use Rattle.file.specs.Answers.{openAnswer, setViewAnswer, byteOffsetAnswer, reverseAnswer, endAnswer, seekAnswer}
+use Rattle.file.specs.Parts.{openAs, setViewAs, seekRefused, freshHandle, withView, openAnswer, setViewAnswer, byteOffsetAnswer, reverseAnswer, endAnswer, seekAnswer}
+use Rattle.file.specs.Handles.{onPaper, viewOf, modeGot, withPointer}
 
 -- ---- open
 
@@ -64,14 +60,14 @@ module _ (h : Handle) (representation : List ℕ) (v : PaperView) (t : Bool) (q 
         λ i. record { refusal = r i; count = 0; handle = (ap (withView h) w ∙ sym g) i }
 
 -- the same, with the signed numbers as the machine reads them
-module _ (h : Handle) (representation : List ℕ) (d : ℤ) (ew : List ℕ) (ed : List ℤ) (ex : ℤ) (fw : List ℕ) (fd : List ℤ) (fx : ℤ) (sd : SFits w64 d) (sx : SFits w64 ex) (sf : SFits w64 fx) (t : Bool) (q : t ≡ handleValid (onPaper h)) (n : not t ≡ false) (made : Accepted) (a : AcceptedAs (h .mode) representation (viewOfTypes (toZ w64 (ofZ w64 d)) (typeOfLists ew ed (toZ w64 (ofZ w64 ex))) (typeOfLists fw fd (toZ w64 (ofZ w64 fx)))) made) where
-  lent-is : AcceptedAs (h .mode) representation (viewOfTypes d (typeOfLists ew ed ex) (typeOfLists fw fd fx)) made
+module _ (h : Handle) (representation : List ℕ) (d : ℤ) (ew : List ℕ) (ed : List ℤ) (ex : ℤ) (fw : List ℕ) (fd : List ℤ) (fx : ℤ) (sd : SFits w64 d) (sx : SFits w64 ex) (sf : SFits w64 fx) (t : Bool) (q : t ≡ handleValid (onPaper h)) (n : not t ≡ false) (made : Accepted) (a : AcceptedAs (h .mode) representation (viewOfLists (toZ w64 (ofZ w64 d)) ew ed (toZ w64 (ofZ w64 ex)) fw fd (toZ w64 (ofZ w64 fx))) made) where
+  lent-is : AcceptedAs (h .mode) representation (viewOfLists d ew ed ex fw fd fx) made
   lent-is = rw (toZ-ofZ sd, toZ-ofZ sx, toZ-ofZ sf) at a
 
-  pub set-refuses : (made .refusal ≡ 0 → ⊥) → (m : SetViewAnswer) → m ≡ setViewAs (made .refusal) h → m ≡ setViewAnswer h representation (viewOfTypes d (typeOfLists ew ed ex) (typeOfLists fw fd fx))
+  pub set-refuses : (made .refusal ≡ 0 → ⊥) → (m : SetViewAnswer) → m ≡ setViewAs (made .refusal) h → m ≡ setViewAnswer h representation (viewOfLists d ew ed ex fw fd fx)
   set-refuses z m y = y ∙ set-rules h representation _ t q n made lent-is z
 
-  pub set-grants : made .refusal ≡ 0 → (m : SetViewAnswer) → m ≡ setViewAs 0 (record { mode = h .mode; pointer = 0; view = made .view }) → m ≡ setViewAnswer h representation (viewOfTypes d (typeOfLists ew ed ex) (typeOfLists fw fd fx))
+  pub set-grants : made .refusal ≡ 0 → (m : SetViewAnswer) → m ≡ setViewAs 0 (record { mode = h .mode; pointer = 0; view = made .view }) → m ≡ setViewAnswer h representation (viewOfLists d ew ed ex fw fd fx)
   set-grants z m y = y ∙ set-done h representation _ t q n made lent-is z
 
 -- ---- place, reverse, end

@@ -1,11 +1,11 @@
 -- Giving back: the answer, from the refusal number that was found and the lists that were filled.
 use Rattle.laws.proofs.Prelude.{ℕ, _*_, _≡_, sym, _∙_, ap, List, arith, mul-le-mul, ℤ, lit<, w64, Fits, granted, check-inv, granted-no}
 use Rattle.view.specs.declared.View.{View}
-use Rattle.view.specs.Types.{paper, entries, extentOf, whole}
-use Rattle.view.specs.Rules.{Valid}
+use Rattle.view.specs.Types.{typemaps, paper, entries, extentOf, whole}
+use Rattle.view.specs.Acceptance.{Valid}
 use Rattle.view.proofs.Paper.{paper-entries, paper-file-entries, paper-extent, paper-file-extent, paper-start}
 use Rattle.view.proofs.Held.{few-entries, record-few}
-use Rattle.view_typemap.specs.Typemaps.{widthsFilled, displacementsFilled}
+use Rattle.view_typemap.specs.Parts.{widthsFilled, displacementsFilled}
 use Rattle.call_checks.specs.Refusals.{getViewRefusal}
 use Rattle.call_checks.proofs.Handles.{held-view}
 use Rattle.call_query.specs.Parts.{ListsGot}
@@ -13,7 +13,7 @@ use Rattle.file.specs.declared.Handle.{Handle}
 use Rattle.file.specs.declared.TypeShape.{TypeShape}
 use Rattle.file.specs.declared.GetViewAnswer.{GetViewAnswer}
 use Rattle.file.specs.Handles.{onPaper, viewOf}
-use Rattle.file.specs.Answers.{getViewAs, getViewAnswer, shapeGot, GotView}
+use Rattle.file.specs.Parts.{getViewAs, getViewAnswer, shapeGot, GetViewDone}
 
 pub entries-fit : (v : View) → Valid (paper v) → Fits w64 (v .numbers .filetype .instances * v .numbers .etype .entries)
 entries-fit v k =
@@ -53,7 +53,7 @@ module _ (h : Handle) (ew ew' : List ℕ) (ed ed' : List ℤ) (fw fw' : List ℕ
   unfolding getViewRefusal
   give-valid z = held-view (onPaper h) (check-inv _ 1 _ (lit< tt) (sym (g .refusal) ∙ z) .0)
 
-  pub gave : (r : GetViewAnswer) → r ≡ getViewAs n h → GotView h ew ew' ed ed' fw fw' fd fd' r
+  pub gave : (r : GetViewAnswer) → r ≡ getViewAs n h → GetViewDone h (typemaps ew ed fw fd) (typemaps ew' ed' fw' fd') r
   unfolding getViewAnswer getViewAs
   gave r q =
       let number : n ≡ r .refusal = sym (ap (λ (z : GetViewAnswer). z .refusal) q) in

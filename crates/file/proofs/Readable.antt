@@ -5,8 +5,8 @@ use Rattle.view.specs.declared.View.{View}
 use Rattle.view.specs.Types.{paper, whole}
 use Rattle.view.specs.Modes.{allowsReading}
 use Rattle.handle.specs.declared.FileRecord.{FileRecord}
-use Rattle.handle.specs.Handles.{paperHandle}
-use Rattle.move_read.specs.Moves.{moved, readInto}
+use Rattle.handle.specs.Parts.{paperHandle}
+use Rattle.move_read.specs.Parts.{moved, readInto}
 use Rattle.move_read.proofs.Reading.{moved-is}
 use Rattle.call_checks.specs.Refusals.{accessRefusal, readRefusal}
 use Rattle.call_checks.proofs.Handles.{past-file, file-pointer}
@@ -14,11 +14,10 @@ use Rattle.call_checks.proofs.Accesses.{access-file, access-sums}
 use Rattle.call_access.specs.declared.ReadOutcome.{ReadOutcome}
 use Rattle.call_access.specs.Parts.{ReadMade}
 use Rattle.file.specs.declared.Handle.{Handle}
-use Rattle.file.specs.declared.ReadAnswer.{ReadAnswer}
-use Rattle.file.specs.Handles.{onPaper, viewOf, pointerOffset, withPointer}
-use Rattle.file.specs.Answers.{readCount, readAtAnswer, readBuffer, readAnswer, ReadAt, ReadNext}
-use Rattle.file.specs.Parts.{readRefused}
-use Rattle.file.proofs.Checking.{start-same}
+use Rattle.file.specs.declared.AccessAnswer.{AccessAnswer}
+use Rattle.file.specs.Handles.{onPaper, viewOf}
+use Rattle.file.specs.Parts.{pointerOffset, accessRefused, atPointer, readCount, readAtAnswer, readBuffer, ReadAt, ReadNext}
+use Rattle.file.proofs.Checking.{start-same, pointer-stays, pointer-raised}
 
 -- ---- at an offset
 
@@ -59,11 +58,11 @@ module _ (h : Handle) (file : List ℕ) (r : FileRecord) (c : ℕ) (before : Lis
   start-answer = start-same h (λ (z : ℤ). readAtAnswer h (length file) r z c (length before)) (λ l a b. rw (past-refused l a, past-refused l b))
 
   start-buffer : readBuffer h file r (pointerOffset h) c before ≡ readBuffer h file r (pos (h .pointer)) c before
-  unfolding readBuffer granted
+  unfolding readBuffer readAtAnswer readCount granted
   start-buffer = start-same h (λ (z : ℤ). readBuffer h file r z c before) (λ l a b. rw (past-refused l a, past-refused l b))
 
   -- a read where the pointer access begins is one at the pointer
-  pub start-read : (after : List ℕ) (done : ReadAnswer) (z : ℤ) → z ≡ pointerOffset h → ReadAt h file r z c before after done → ReadAt h file r (pos (h .pointer)) c before after done
+  pub start-read : (after : List ℕ) (done : AccessAnswer) (z : ℤ) → z ≡ pointerOffset h → ReadAt h file r z c before after done → ReadAt h file r (pos (h .pointer)) c before after done
   start-read after done z e d = record {
     answer = d .answer ∙ ap (λ (x : ℤ). readAtAnswer h (length file) r x c (length before)) e ∙ start-answer;
     buffer = d .buffer ∙ ap (λ (x : ℤ). readBuffer h file r x c before) e ∙ start-buffer;
@@ -73,32 +72,8 @@ module _ (h : Handle) (file : List ℕ) (r : FileRecord) (c : ℕ) (before : Lis
     at-pointer : ReadAt h file r (pos (h .pointer)) c before after (record { refusal = d .refusal; count = d .count; handle = h; file = r })
     at-pointer = start-read after _ (b .0) e (at-answered h file r (b .0) c before after d made)
 
-    refusal-is : d .refusal ≡ readRefusal (onPaper h) (length file) r (pos (h .pointer)) c (length before)
-    unfolding readAtAnswer
-    refusal-is = ap (λ x. x .refusal) (at-pointer .answer)
+    pub next-refused : (d .refusal ≡ 0 → ⊥) → (m : AccessAnswer) → m ≡ accessRefused (d .refusal) h r → ReadNext h file r c before after m
+    next-refused z m q = record { answer = q ∙ pointer-stays h (d .refusal) (d .count) r z (at-none h file r (b .0) c before after d made z) ∙ ap (atPointer h) (at-pointer .answer); buffer = at-pointer .buffer }
 
-    count-is : d .count ≡ readCount h (length file) r (pos (h .pointer)) c (length before)
-    unfolding readAtAnswer
-    count-is = ap (λ x. x .count) (at-pointer .answer)
-
-    pub next-refused : (d .refusal ≡ 0 → ⊥) → (m : ReadAnswer) → m ≡ readRefused (d .refusal) h r → ReadNext h file r c before after m
-    unfolding readAnswer readAtAnswer
-    next-refused z m q =
-        let n = readRefusal (onPaper h) (length file) r (pos (h .pointer)) c (length before) in
-        let x = readCount h (length file) r (pos (h .pointer)) c (length before) in
-        let g = granted-no n (withPointer h (h .pointer + x)) h (λ y. z (refusal-is ∙ y)) in
-        let none = sym (at-none h file r (b .0) c before after d made z) ∙ count-is in
-        record { answer = q ∙ (λ i. record { refusal = refusal-is i; count = none i; handle = sym g i; file = r }); buffer = at-pointer .buffer }
-
-    module _ (z : d .refusal ≡ 0) where
-      pub next-done : ReadNext h file r c before after (record { refusal = 0; count = d .count; handle = record { mode = h .mode; pointer = h .pointer + d .count; view = h .view }; file = r })
-      unfolding readAnswer readAtAnswer withPointer
-      next-done =
-          let n = readRefusal (onPaper h) (length file) r (pos (h .pointer)) c (length before) in
-          let m = readCount h (length file) r (pos (h .pointer)) c (length before) in
-          let y : n ≡ 0 = sym refusal-is ∙ z in
-          let g = granted-yes n (withPointer h (h .pointer + m)) h y in
-          record {
-            answer = λ i. record { refusal = sym y i; count = count-is i; handle = (ap (λ (x : ℕ). withPointer h (h .pointer + x)) count-is ∙ sym g) i; file = r };
-            buffer = at-pointer .buffer;
-          }
+    pub next-done : d .refusal ≡ 0 → ReadNext h file r c before after (record { refusal = 0; count = d .count; handle = record { mode = h .mode; pointer = h .pointer + d .count; view = h .view }; file = r })
+    next-done z = record { answer = pointer-raised h (d .refusal) (d .count) r z ∙ ap (atPointer h) (at-pointer .answer); buffer = at-pointer .buffer }

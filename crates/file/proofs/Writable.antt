@@ -4,20 +4,20 @@ use Rattle.view.specs.declared.Offset.{Offset}
 use Rattle.view.specs.declared.View.{View}
 use Rattle.view.specs.Types.{whole}
 use Rattle.handle.specs.declared.FileRecord.{FileRecord}
-use Rattle.handle.specs.Handles.{paperHandle, withSize}
+use Rattle.handle.specs.Parts.{paperHandle}
+use Rattle.handle.specs.Handles.{withSize}
 use Rattle.handle.proofs.Ranging.{access-sum}
-use Rattle.move_read.specs.Moves.{newSize, written}
+use Rattle.move_read.specs.Parts.{newSize, written}
 use Rattle.call_checks.specs.Refusals.{accessRefusal, writeRefusal}
 use Rattle.call_checks.proofs.Handles.{past-file, file-pointer}
 use Rattle.call_access.specs.declared.WriteOutcome.{WriteOutcome}
 use Rattle.call_access.specs.Parts.{WriteMade}
 use Rattle.call_access.proofs.Writing.{checked}
 use Rattle.file.specs.declared.Handle.{Handle}
-use Rattle.file.specs.declared.WriteAnswer.{WriteAnswer}
-use Rattle.file.specs.Handles.{onPaper, viewOf, pointerOffset, withPointer}
-use Rattle.file.specs.Answers.{writeAtAnswer, writtenFile, writeAnswer, WriteAt, WriteNext}
-use Rattle.file.specs.Parts.{writeRefused}
-use Rattle.file.proofs.Checking.{start-same}
+use Rattle.file.specs.declared.AccessAnswer.{AccessAnswer}
+use Rattle.file.specs.Handles.{onPaper, viewOf}
+use Rattle.file.specs.Parts.{pointerOffset, accessRefused, atPointer, writeAtAnswer, writtenFile, WriteAt, WriteNext}
+use Rattle.file.proofs.Checking.{start-same, pointer-stays, pointer-raised}
 
 -- ---- at an offset
 
@@ -34,8 +34,8 @@ module _ (h : Handle) (file after : List ℕ) (r : FileRecord) (o : ℤ) (c : �
     bytes = write .bytes ∙ ap (λ (n : ℕ). granted n (written (viewOf h) (r .size) (whole o) c buf file) file) (write .refusal);
   }
 
-  pub at-none : (d .refusal ≡ 0 → ⊥) → (d .count ≡ 0) × (d .file ≡ r)
-  at-none z = (write .count ∙ granted-no (d .refusal) c 0 z, write .file ∙ granted-no (d .refusal) _ r z)
+  pub at-none : (d .refusal ≡ 0 → ⊥) → d .count ≡ 0
+  at-none z = write .count ∙ granted-no (d .refusal) c 0 z
 
 -- ---- at the pointer
 
@@ -57,7 +57,7 @@ module _ (h : Handle) (file : List ℕ) (r : FileRecord) (c : ℕ) (buf : List �
   start-answer = start-same h (λ (z : ℤ). writeAtAnswer h (length file) r z c (length buf)) (λ l a b. rw (past-refused l a, past-refused l b))
 
   start-bytes : writtenFile h file r (pointerOffset h) c buf ≡ writtenFile h file r (pos (h .pointer)) c buf
-  unfolding writtenFile granted
+  unfolding writtenFile writeAtAnswer granted
   start-bytes = start-same h (λ (z : ℤ). writtenFile h file r z c buf) (λ l a b. rw (past-refused l a, past-refused l b))
 
   module _ (after : List ℕ) (d : WriteOutcome) (b : Offset) (e : b .0 ≡ pointerOffset h) (made : WriteMade (onPaper h) file after r (b .0) c buf d) where
@@ -70,34 +70,12 @@ module _ (h : Handle) (file : List ℕ) (r : FileRecord) (c : ℕ) (buf : List �
     bytes-are : after ≡ writtenFile h file r (pos (h .pointer)) c buf
     bytes-are = at .bytes ∙ ap (λ (z : ℤ). writtenFile h file r z c buf) e ∙ start-bytes
 
-    refusal-is : d .refusal ≡ writeRefusal (onPaper h) (length file) r (pos (h .pointer)) c (length buf)
-    unfolding writeAtAnswer
-    refusal-is = ap (λ x. x .refusal) answer-is
-
-    pub next-refused : (d .refusal ≡ 0 → ⊥) → (m : WriteAnswer) → m ≡ writeRefused (d .refusal) h r → WriteNext h file after r c buf m
-    unfolding writeAnswer writeAtAnswer
-    next-refused z m q =
-        let a = writeAtAnswer h (length file) r (pos (h .pointer)) c (length buf) in
-        let g = granted-no (a .refusal) (withPointer h (h .pointer + a .count)) h (λ y. z (refusal-is ∙ y)) in
-        let none = at-none h file after r (b .0) c buf d made z in
-        record {
-          answer = q ∙ (λ i. record { refusal = d .refusal; count = sym (none .0) i; handle = h; file = sym (none .1) i }) ∙ answer-is ∙ (λ i. record { refusal = a .refusal; count = a .count; handle = sym g i; file = a .file });
-          bytes = bytes-are;
-        }
+    pub next-refused : (d .refusal ≡ 0 → ⊥) → (m : AccessAnswer) → m ≡ accessRefused (d .refusal) h (d .file) → WriteNext h file after r c buf m
+    next-refused z m q = record { answer = q ∙ pointer-stays h (d .refusal) (d .count) (d .file) z (at-none h file after r (b .0) c buf d made z) ∙ ap (atPointer h) answer-is; bytes = bytes-are }
 
     module _ (z : d .refusal ≡ 0) where
-      granted-is : writeRefusal (onPaper h) (length file) r (pos (h .pointer)) c (length buf) ≡ 0
-      granted-is = sym refusal-is ∙ z
-
-      count-is : c ≡ granted (writeRefusal (onPaper h) (length file) r (pos (h .pointer)) c (length buf)) c 0
-      count-is = sym (granted-yes _ c 0 granted-is)
+      count-is : d .count ≡ c
+      count-is = made .count ∙ granted-yes (d .refusal) c 0 z
 
       pub next-done : WriteNext h file after r c buf (record { refusal = 0; count = c; handle = record { mode = h .mode; pointer = h .pointer + c; view = h .view }; file = d .file })
-      unfolding writeAnswer writeAtAnswer withPointer
-      next-done =
-          let a = writeAtAnswer h (length file) r (pos (h .pointer)) c (length buf) in
-          let g = granted-yes (a .refusal) (withPointer h (h .pointer + a .count)) h granted-is in
-          record {
-            answer = λ i. record { refusal = sym granted-is i; count = count-is i; handle = (ap (λ (x : ℕ). withPointer h (h .pointer + x)) count-is ∙ sym g) i; file = answer-is i .file };
-            bytes = bytes-are;
-          }
+      next-done = record { answer = pointer-raised h (d .refusal) c (d .file) z ∙ ap (λ (x : ℕ). atPointer h (record { refusal = d .refusal; count = x; handle = h; file = d .file })) (sym count-is) ∙ ap (atPointer h) answer-is; bytes = bytes-are }

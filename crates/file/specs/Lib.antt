@@ -1,3 +1,3 @@
+pub mod Constants
 pub mod Handles
-pub mod Answers
 pub mod Parts

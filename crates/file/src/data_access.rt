@@ -1,32 +1,18 @@
 // Reading and writing, each at an explicit offset or at the pointer.
 ghost use mathlib.Core.Path.{_≡_};
-ghost use Rattle.file.specs.Answers.{ReadAt, ReadNext, WriteAt, WriteNext};
-ghost use Rattle.file.specs.Parts.{readRefused, writeRefused};
+ghost use Rattle.file.specs.Parts.{ReadAt, ReadNext, WriteAt, WriteNext, accessRefused};
+use crate::AccessAnswer;
 use crate::Handle;
-use crate::ReadAnswer;
-use crate::WriteAnswer;
 use handle::Access;
 use handle::FileRecord;
 use handle::HandleNumbers;
 use view::Offset;
 
-// A refused read: handle and record come back as they came.
-fn read_refused(refusal: u64, handle: Handle, rec: FileRecord) -> ReadAnswer
-    ensures { λ r. ⌜ r ≡ readRefused refusal handle rec ⌝ }
+// A refused access: handle and record come back as they came.
+fn access_refused(refusal: u64, handle: Handle, rec: FileRecord) -> AccessAnswer
+    ensures { λ r. ⌜ r ≡ accessRefused refusal handle rec ⌝ }
 {
-    ReadAnswer {
-        refusal: refusal,
-        count: 0,
-        handle: handle,
-        file: rec,
-    }
-}
-
-// A refused write: handle and record come back as they came.
-fn write_refused(refusal: u64, handle: Handle, rec: FileRecord) -> WriteAnswer
-    ensures { λ r. ⌜ r ≡ writeRefused refusal handle rec ⌝ }
-{
-    WriteAnswer {
+    AccessAnswer {
         refusal: refusal,
         count: 0,
         handle: handle,
@@ -43,7 +29,7 @@ impl Handle {
         o: Offset,
         count: u64,
         buf: &mut [u8],
-    ) -> ReadAnswer
+    ) -> AccessAnswer
         ensures { λ r. ⌜ ReadAt self (now (file .entry)) rec (o .0) count (now (buf .entry)) (now (buf .exit)) r ⌝ }
     {
         let h = HandleNumbers {
@@ -65,7 +51,7 @@ impl Handle {
             access,
             buf,
         );
-        ReadAnswer {
+        AccessAnswer {
             refusal: done.refusal,
             count: done.count,
             handle: self,
@@ -74,7 +60,7 @@ impl Handle {
     }
 
     // Reads `count` etypes at the pointer and raises it by the number moved.
-    pub fn read(mut self, file: &[u8], rec: FileRecord, count: u64, buf: &mut [u8]) -> ReadAnswer
+    pub fn read(mut self, file: &[u8], rec: FileRecord, count: u64, buf: &mut [u8]) -> AccessAnswer
         ensures { λ r. ⌜ ReadNext self (now (file .entry)) rec count (now (buf .entry)) (now (buf .exit)) r ⌝ }
     {
         let access = Access {
@@ -97,10 +83,10 @@ impl Handle {
             buf,
         );
         if done.refusal != 0 {
-            return read_refused(done.refusal, self, rec);
+            return access_refused(done.refusal, self, rec);
         }
         self.pointer = self.pointer + done.count;
-        ReadAnswer {
+        AccessAnswer {
             refusal: 0,
             count: done.count,
             handle: self,
@@ -116,7 +102,7 @@ impl Handle {
         o: Offset,
         count: u64,
         buf: &[u8],
-    ) -> WriteAnswer
+    ) -> AccessAnswer
         ensures { λ r. ⌜ WriteAt self (now (file .entry)) (now (file .exit)) rec (o .0) count (now (buf .entry)) r ⌝ }
     {
         let h = HandleNumbers {
@@ -139,7 +125,7 @@ impl Handle {
             buf,
         );
         let grown = done.file;
-        WriteAnswer {
+        AccessAnswer {
             refusal: done.refusal,
             count: done.count,
             handle: self,
@@ -148,7 +134,7 @@ impl Handle {
     }
 
     // Writes `count` etypes of the buffer at the pointer and raises it by as many.
-    pub fn write(mut self, file: &mut [u8], rec: FileRecord, count: u64, buf: &[u8]) -> WriteAnswer
+    pub fn write(mut self, file: &mut [u8], rec: FileRecord, count: u64, buf: &[u8]) -> AccessAnswer
         ensures { λ r. ⌜ WriteNext self (now (file .entry)) (now (file .exit)) rec count (now (buf .entry)) r ⌝ }
     {
         let access = Access {
@@ -170,12 +156,12 @@ impl Handle {
             access,
             buf,
         );
+        let grown = done.file;
         if done.refusal != 0 {
-            return write_refused(done.refusal, self, rec);
+            return access_refused(done.refusal, self, grown);
         }
         self.pointer = self.pointer + count;
-        let grown = done.file;
-        WriteAnswer {
+        AccessAnswer {
             refusal: 0,
             count: count,
             handle: self,

@@ -7,11 +7,21 @@ mod place_query;
 mod seeking;
 mod view_setting;
 
+ghost use mathlib.Core.Path.{_≡_};
+ghost use Rattle.file.specs.Constants.{constantsOnPaper};
 pub use handle::FileRecord;
 use view::BytePos;
 use view::Offset;
 use view::Owner;
 use view::View;
+
+// A handle's constants, each group in the order in which they are declared below.
+pub struct Constants {
+    pub modes: [u64; 4],
+    pub limits: [u64; 2],
+    pub whences: [u64; 3],
+    pub refusals: [u64; 16],
+}
 
 // A file handle: the mode of the open, the individual file pointer, and the view.
 pub struct Handle {
@@ -73,10 +83,44 @@ impl Handle {
     pub const REFUSED_WHENCE: u64 = View::REFUSED_WHENCE;
 
     pub const REFUSED_OPEN_MODE: u64 = View::REFUSED_OPEN_MODE;
+
+    // Every constant above; the contract says that they are document 01's numbers.
+    pub fn constants() -> Constants
+        ensures { λ r. ⌜ r ≡ constantsOnPaper ⌝ }
+    {
+        Constants {
+            modes: [
+                Handle::MODE_UNNAMED,
+                Handle::MODE_READING,
+                Handle::MODE_WRITING,
+                Handle::MODE_BOTH,
+            ],
+            limits: [Handle::MAX_POINTER, Handle::MAX_FILE_LENGTH],
+            whences: [Handle::SEEK_SET, Handle::SEEK_CURRENT, Handle::SEEK_END],
+            refusals: [
+                Handle::REFUSED_HANDLE,
+                Handle::REFUSED_REPRESENTATION,
+                Handle::REFUSED_DISPLACEMENT,
+                Handle::REFUSED_ENTRY_COUNT,
+                Handle::REFUSED_EXTENT,
+                Handle::REFUSED_ENTRY,
+                Handle::REFUSED_ORDER,
+                Handle::REFUSED_GROUPS,
+                Handle::REFUSED_HOLE,
+                Handle::REFUSED_OVERLAP,
+                Handle::REFUSED_MODE,
+                Handle::REFUSED_RANGE,
+                Handle::REFUSED_ROOM,
+                Handle::REFUSED_LENGTH,
+                Handle::REFUSED_WHENCE,
+                Handle::REFUSED_OPEN_MODE,
+            ],
+        }
+    }
 }
 
 // The answers, one type for each call: the refusal number, 0 if granted, the count, the handle, the file record where the call has one, and what else the call answers.
-// The two reads share a type, and so do the two writes.
+// Reads and writes, at an explicit offset or at the pointer, share a type.
 
 pub struct OpenAnswer {
     pub refusal: u64,
@@ -138,14 +182,7 @@ pub struct SeekAnswer {
     pub file: FileRecord,
 }
 
-pub struct ReadAnswer {
-    pub refusal: u64,
-    pub count: u64,
-    pub handle: Handle,
-    pub file: FileRecord,
-}
-
-pub struct WriteAnswer {
+pub struct AccessAnswer {
     pub refusal: u64,
     pub count: u64,
     pub handle: Handle,

@@ -1,8 +1,7 @@
 // Open.
 ghost use mathlib.Core.Path.{_≡_};
-ghost use Rattle.file.specs.Handles.{freshHandle, modeGot};
-ghost use Rattle.file.specs.Answers.{openAnswer};
-ghost use Rattle.file.specs.Parts.{openAs};
+ghost use Rattle.file.specs.Parts.{freshHandle, openAnswer, openAs};
+ghost use Rattle.file.specs.Handles.{modeGot};
 use crate::Handle;
 use crate::OpenAnswer;
 use view::View;

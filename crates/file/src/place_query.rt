@@ -1,7 +1,7 @@
 // Where things lie in a handle's view: document 01's place query, reverse lookup and end of file.
 ghost use mathlib.Core.Path.{_≡_};
 ghost use lib.ListN.{length};
-ghost use Rattle.file.specs.Answers.{byteOffsetAnswer, reverseAnswer, endAnswer};
+ghost use Rattle.file.specs.Parts.{byteOffsetAnswer, reverseAnswer, endAnswer};
 use crate::ByteOffsetAnswer;
 use crate::EndAnswer;
 use crate::Handle;

@@ -1,9 +1,7 @@
 // The individual file pointer: seek.
 ghost use mathlib.Core.Path.{_≡_};
 ghost use lib.ListN.{length};
-ghost use Rattle.file.specs.Handles.{pointerOffset};
-ghost use Rattle.file.specs.Answers.{seekAnswer};
-ghost use Rattle.file.specs.Parts.{seekRefused};
+ghost use Rattle.file.specs.Parts.{pointerOffset, seekRefused, seekAnswer};
 use crate::Handle;
 use crate::SeekAnswer;
 use handle::FileNumbers;

@@ -1,10 +1,8 @@
 // Setting a view, and getting it: document 01's giving back.
 ghost use mathlib.Core.Path.{_≡_};
-ghost use Rattle.view.specs.Types.{paper};
-ghost use Rattle.view.specs.Rules.{Valid};
-ghost use Rattle.rule_lists.specs.Lists.{typeOfLists, viewOfTypes};
-ghost use Rattle.file.specs.Answers.{setViewAnswer, getViewAs, GotView};
-ghost use Rattle.file.specs.Parts.{setViewAs};
+ghost use Rattle.view.specs.Types.{paper, viewOfLists, typemaps};
+ghost use Rattle.view.specs.Acceptance.{Valid};
+ghost use Rattle.file.specs.Parts.{setViewAnswer, getViewAs, GetViewDone, setViewAs};
 use crate::GetViewAnswer;
 use crate::Handle;
 use crate::SetViewAnswer;
@@ -71,7 +69,8 @@ impl Handle {
         fd: &[i64],
         fx: i64,
     ) -> SetViewAnswer
-        ensures { λ r. ⌜ r ≡ setViewAnswer self (now (representation .entry)) (viewOfTypes displacement (typeOfLists (now (ew .entry)) (now (ed .entry)) ex) (typeOfLists (now (fw .entry)) (now (fd .entry)) fx)) ⌝ }
+        ensures { λ r. ⌜ r ≡ setViewAnswer self (now (representation .entry))
+            (viewOfLists displacement (now (ew .entry)) (now (ed .entry)) ex (now (fw .entry)) (now (fd .entry)) fx) ⌝ }
     {
         let h = HandleNumbers {
             mode: self.mode,
@@ -106,7 +105,9 @@ impl Handle {
         fw: &mut [u64],
         fd: &mut [i64],
     ) -> GetViewAnswer
-        ensures { λ r. ⌜ GotView self (now (ew .entry)) (now (ew .exit)) (now (ed .entry)) (now (ed .exit)) (now (fw .entry)) (now (fw .exit)) (now (fd .entry)) (now (fd .exit)) r ⌝ }
+        ensures { λ r. ⌜ GetViewDone self
+            (typemaps (now (ew .entry)) (now (ed .entry)) (now (fw .entry)) (now (fd .entry)))
+            (typemaps (now (ew .exit)) (now (ed .exit)) (now (fw .exit)) (now (fd .exit))) r ⌝ }
     {
         let h = HandleNumbers {
             mode: self.mode,

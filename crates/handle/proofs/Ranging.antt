@@ -3,7 +3,8 @@ use Rattle.laws.proofs.Prelude.{minus-negative, ℕ, suc, _+_, _-_, _*_, _≤_,
 use Rattle.view.specs.Limits.{offsetAllowed, pointerAllowed}
 use Rattle.view.specs.Types.{whole}
 use Rattle.handle.specs.declared.Target.{Target}
-use Rattle.handle.specs.Ranges.{targetAllowed, accessAllowed, targetAt}
+use Rattle.handle.specs.Ranges.{targetAllowed, accessAllowed}
+use Rattle.handle.specs.Parts.{targetAt}
 
 -- ---- for callers
 

@@ -1,12 +1,11 @@
--- Document 01: a handle on paper, check 1, and a file record after a write.
+-- Must be believed. Document 01: a handle on paper, check 1, and a file record after a write.
 use Prim.Native.Nat.{ℕ}
 use mathlib.Core.Bool.{Bool}
 use Rattle.laws.specs.Checks.{also}
-use Rattle.view.specs.declared.View.{View}
 use Rattle.view.specs.Limits.{pointerAllowed, fileAllowed}
 use Rattle.view.specs.Modes.{modeAllowed}
-use Rattle.view.specs.Types.{PaperView, paper}
-use Rattle.view.specs.Rules.{accepted}
+use Rattle.view.specs.Types.{PaperView}
+use Rattle.view.specs.Acceptance.{accepted}
 use Rattle.handle.specs.declared.FileRecord.{FileRecord}
 
 -- a handle on paper: the mode of the open, the individual file pointer and the view
@@ -26,7 +25,3 @@ fileValid h len r = also (handleValid h) (fileAllowed len (r .size))
 -- the file record with another size
 unfoldable pub withSize : FileRecord → ℕ → FileRecord
 withSize r size = record { size = size }
-
--- the handle of a mode, a pointer and a view's record
-abbrev pub paperHandle : ℕ → ℕ → View → PaperHandle
-paperHandle mode pointer v = record { mode = mode; pointer = pointer; view = paper v }

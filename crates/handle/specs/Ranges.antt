@@ -1,11 +1,9 @@
--- Document 01, refusal 12: the ranges of an access and of a seek.
+-- Must be believed. Document 01, refusal 12: the ranges of an access and of a seek.
 use Prim.Native.Nat.{ℕ, _+_}
-use mathlib.Core.Bool.{Bool, false, cond}
+use mathlib.Core.Bool.{Bool, false}
 use lib.Dec.{leb}
 use lib.IntN.{ℤ, pos, negsuc}
 use Rattle.view.specs.Limits.{offsetCount, pointerAllowed}
-use Rattle.view.specs.Types.{whole}
-use Rattle.handle.specs.declared.Target.{Target}
 
 -- 12 of seek: the target is from 0 to 2^32
 unfoldable pub targetAllowed : ℤ → Bool
@@ -16,7 +14,3 @@ targetAllowed (negsuc p) = false
 unfoldable pub accessAllowed : ℤ → ℕ → Bool
 accessAllowed (pos o) c = leb (o + c) offsetCount
 accessAllowed (negsuc o) c = false
-
--- a seek's target t: whether it is allowed, and the pointer if it is, else 0
-unfoldable pub targetAt : ℤ → Target
-targetAt t = record { allowed = targetAllowed t; pointer = cond (targetAllowed t) (whole t) 0 }

@@ -18,10 +18,11 @@ pub use mir.Facts.{toZ-ofZ, toZ-pos}
 pub use borrow.Author.Needs.{length-unmapped, needs, scaled-fits, set-long, sfits-of}
 pub use borrow.Author.Tests.{eq-eqb, eqb-true, le-leb, le-ltb, leb-false, leb-true, lt-leb, lt-ltb, ltb-true, ne-eqb, not-false, not-true}
 unfoldable pub use Rattle.laws.specs.Checks.{also, check, either, granted, within}
-unfoldable pub use Rattle.laws.specs.Search.{all, first, greatest, total}
-unfoldable pub use Rattle.laws.specs.Lists.{front, nth, store, tabulate}
+unfoldable pub use Rattle.laws.specs.Search.{all, leastFalse, total}
+unfoldable pub use Rattle.laws.specs.Parts.{greatest, front, store}
+unfoldable pub use Rattle.laws.specs.Lists.{nth, tabulate}
 pub use Rattle.laws.proofs.Booleans.{Passes, also-false, also-first, also-inv, also-no, also-true, also-yes, check-inv, check-no, check-passes, check-yes, check-zero, cond-no, cond-yes, either-else, either-inv, either-left, either-no, either-right, either-yes, ends-here, eq-or-ne, granted-no, granted-yes, iff, lt-or-le, not-both, tests, unflag-false, unflag-true, within-high, within-inv, within-low, within-yes}
-pub use Rattle.laws.proofs.Searching.{Passed, all-at, all-intro, all-same, first-breaks, first-is, first-keeps, first-le, passed-end, passed-fails, passed-holds, passed-more, passed-none, passed-stop}
+pub use Rattle.laws.proofs.Searching.{Passed, all-at, all-intro, all-same, least-false-breaks, least-false-is, least-false-keeps, least-false-le, passed-end, passed-fails, passed-holds, passed-more, passed-none, passed-stop}
 pub use Rattle.laws.proofs.Quotients.{next-in, next-over, run-below, run-div, run-mod, runs-below, times-more}
 pub use Rattle.laws.proofs.Stores.{front-at, front-past, length-store, length-tabulate, store-at, store-end, store-more, store-none, store-other, store-same, storing, tabulate-at, tabulate-is, tabulate-same}
 pub use Rattle.laws.proofs.Sums.{Highest, greatest-above, greatest-least, greatest-one, greatest-same, highest-end, highest-more, highest-none, total-more, total-most, total-part, total-same}

@@ -6,7 +6,8 @@ use native.Mathlib.Nat.{add-zero, add-suc, zero-add, suc-add}
 use native.Mathlib.Omega.{arith}
 use lib.ListN.{length, getD, set, take, drop, take-append-drop, length-drop, drop-of-length-le}
 use lib.Seq.{length-take-le, take-all, getD-take, ext-getD}
-use Rattle.laws.specs.Lists.{tabulate, store, front}
+use Rattle.laws.specs.Lists.{tabulate}
+use Rattle.laws.specs.Parts.{store, front}
 use Rattle.laws.proofs.Stores.{length-tabulate, tabulate-at, store-same, length-store, front-at}
 
 -- a stores, then b more

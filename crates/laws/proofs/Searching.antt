@@ -1,15 +1,20 @@
--- Laws of `first` and `all`: what a search returns, and the invariant of the loop that makes it.
+-- Laws of `leastFalse` and `all`: what a search returns, and the invariant of the loop that makes it.
 use Prim.Native.Nat.{ℕ, zero, suc, _+_, _≤_, _<_}
 use mathlib.Core.Bool.{Bool, true, false, cond}
 use mathlib.Core.Logic.{⊎-elim}
 use mathlib.Core.Path.{_≡_, refl, sym, ap, _∙_}
 use native.Mathlib.Nat.{eq-or-lt-of-le}
 use native.Mathlib.Omega.{arith}
+use lib.Dec.{eqb}
 use borrow.Author.Count.{below-more}
 use borrow.Author.Needs.{needs}
 use borrow.Author.Tests.{eq-eqb, ne-eqb, eqb-true, le-ltb, lt-ltb, le-leb, lt-leb}
-use Rattle.laws.specs.Search.{first, all, searched}
+use Rattle.laws.specs.Search.{leastFalse, all}
 use Rattle.laws.proofs.Booleans.{eq-or-ne, iff, flag-true, flag-false, unflag-true, unflag-false}
+
+-- a search among the first n indices found f; then index n is looked at, which keeps the rule or not
+abbrev searched : ℕ → ℕ → Bool → ℕ
+searched n f keeps = cond (eqb f n) (cond keeps (suc n) n) f
 
 searched-le : (n f : ℕ) (b : Bool) → f ≤ n → searched n f b ≤ suc n
 searched-le n f b h = ⊎-elim (λ q. rw (eq-eqb f n q) (last b)) (λ q. rw (ne-eqb f n q) (omega arith)) (eq-or-ne f n)
@@ -18,10 +23,10 @@ searched-le n f b h = ⊎-elim (λ q. rw (eq-eqb f n q) (last b)) (λ q. rw (ne-
     last true = omega arith
     last false = omega arith
 
-pub first-le : (p : ℕ → Bool) (n : ℕ) → first p n ≤ n
-unfolding first
-first-le p zero = omega arith
-first-le p (suc n) = searched-le n (first p n) (p n) (first-le p n)
+pub least-false-le : (p : ℕ → Bool) (n : ℕ) → leastFalse p n ≤ n
+unfolding leastFalse
+least-false-le p zero = omega arith
+least-false-le p (suc n) = searched-le n (leastFalse p n) (p n) (least-false-le p n)
 
 -- what is found is r, where r keeps to what a search finds
 searched-is : (p : ℕ → Bool) (n r f : ℕ) → r ≤ suc n → ((k : ℕ) → k < r → p k ≡ true) → (r < suc n → p r ≡ false) → (n ≤ r → f ≡ n) → (r < n → f ≡ r) → r ≡ searched n f (p n)
@@ -37,13 +42,13 @@ searched-is p n r f le keeps breaks top low = ⊎-elim past (λ h. ⊎-elim (at 
     below h l = let e = low l in simp (ne-eqb f n (λ q. omega arith)) (sym e)
 
 -- a number within n that breaks the rule, if below n, and before which nothing does, is what the search finds
-pub first-is : (p : ℕ → Bool) (n r : ℕ) → r ≤ n → ((k : ℕ) → k < r → p k ≡ true) → (r < n → p r ≡ false) → r ≡ first p n
-unfolding first
-first-is p zero r le keeps breaks = omega arith
-first-is p (suc n) r le keeps breaks =
-    searched-is p n r (first p n) le keeps breaks
-    (λ h. sym (first-is p n n (omega arith) (λ k l. keeps k (omega arith)) (λ l. absurd (omega arith))))
-    (λ h. sym (first-is p n r (omega arith) keeps (λ l. breaks (omega arith))))
+pub least-false-is : (p : ℕ → Bool) (n r : ℕ) → r ≤ n → ((k : ℕ) → k < r → p k ≡ true) → (r < n → p r ≡ false) → r ≡ leastFalse p n
+unfolding leastFalse
+least-false-is p zero r le keeps breaks = omega arith
+least-false-is p (suc n) r le keeps breaks =
+    searched-is p n r (leastFalse p n) le keeps breaks
+    (λ h. sym (least-false-is p n n (omega arith) (λ k l. keeps k (omega arith)) (λ l. absurd (omega arith))))
+    (λ h. sym (least-false-is p n r (omega arith) keeps (λ l. breaks (omega arith))))
 
 -- ---- what is known of the index that is found
 
@@ -58,10 +63,10 @@ searched-keeps p n f keeps k l = ⊎-elim (λ q. ⊎-elim (λ e. ap p e ∙ top 
     top q d true e = e
     top q d false e = absurd (omega (arith, simp (eq-eqb f n q, e) at l))
 
-pub first-keeps : (p : ℕ → Bool) (n k : ℕ) → k < first p n → p k ≡ true
-unfolding first
-first-keeps p zero k l = absurd (omega arith)
-first-keeps p (suc n) k l = searched-keeps p n (first p n) (first-keeps p n) k l
+pub least-false-keeps : (p : ℕ → Bool) (n k : ℕ) → k < leastFalse p n → p k ≡ true
+unfolding leastFalse
+least-false-keeps p zero k l = absurd (omega arith)
+least-false-keeps p (suc n) k l = searched-keeps p n (leastFalse p n) (least-false-keeps p n) k l
 
 searched-breaks : (p : ℕ → Bool) (n f : ℕ) → f ≤ n → (f < n → p f ≡ false) → searched n f (p n) < suc n → p (searched n f (p n)) ≡ false
 searched-breaks p n f le breaks l = ⊎-elim (λ q. last q (p n) refl) (λ q. rw (ne-eqb f n q) (breaks (omega arith))) (eq-or-ne f n)
@@ -70,10 +75,10 @@ searched-breaks p n f le breaks l = ⊎-elim (λ q. last q (p n) refl) (λ q. rw
     last q true e = absurd (omega (arith, simp (eq-eqb f n q, e) at l))
     last q false e = simp (eq-eqb f n q, e)
 
-pub first-breaks : (p : ℕ → Bool) (n : ℕ) → first p n < n → p (first p n) ≡ false
-unfolding first
-first-breaks p zero l = absurd (omega arith)
-first-breaks p (suc n) l = searched-breaks p n (first p n) (first-le p n) (first-breaks p n) l
+pub least-false-breaks : (p : ℕ → Bool) (n : ℕ) → leastFalse p n < n → p (leastFalse p n) ≡ false
+unfolding leastFalse
+least-false-breaks p zero l = absurd (omega arith)
+least-false-breaks p (suc n) l = searched-breaks p n (leastFalse p n) (least-false-le p n) (least-false-breaks p n) l
 
 -- ---- the loop's invariant: nothing before i breaks the rule
 
@@ -87,30 +92,30 @@ passed-none p n = record { reached = omega arith; keeps = λ k h. absurd (omega 
 pub passed-more : (p : ℕ → Bool) (i n : ℕ) → Passed p i n → i < n → p i ≡ true → Passed p (i + 1) n
 passed-more p i n s l h = record { reached = omega arith; keeps = below-more _ _ (s .keeps) h }
 
-pub passed-stop : (p : ℕ → Bool) (i n : ℕ) → Passed p i n → i < n → p i ≡ false → i ≡ first p n
-passed-stop p i n s l h = first-is p n i (s .reached) (s .keeps) (λ q. h)
+pub passed-stop : (p : ℕ → Bool) (i n : ℕ) → Passed p i n → i < n → p i ≡ false → i ≡ leastFalse p n
+passed-stop p i n s l h = least-false-is p n i (s .reached) (s .keeps) (λ q. h)
 
-pub passed-end : (p : ℕ → Bool) (i n : ℕ) → Passed p i n → n ≤ i → i ≡ first p n
-passed-end p i n s l = first-is p n i (s .reached) (s .keeps) (λ q. absurd (omega arith))
+pub passed-end : (p : ℕ → Bool) (i n : ℕ) → Passed p i n → n ≤ i → i ≡ leastFalse p n
+passed-end p i n s l = least-false-is p n i (s .reached) (s .keeps) (λ q. absurd (omega arith))
 
 -- ---- a rule that holds everywhere
 
 pub all-intro : (p : ℕ → Bool) (n : ℕ) → ((k : ℕ) → k < n → p k ≡ true) → all p n ≡ true
 unfolding all
-all-intro p n h = eq-eqb (first p n) n (sym (first-is p n n (omega arith) h (λ l. absurd (omega arith))))
+all-intro p n h = eq-eqb (leastFalse p n) n (sym (least-false-is p n n (omega arith) h (λ l. absurd (omega arith))))
 
 pub all-at : (p : ℕ → Bool) (n : ℕ) → all p n ≡ true → (k : ℕ) → k < n → p k ≡ true
 unfolding all
-all-at p n h k l = first-keeps p n k (omega (arith, eqb-true (first p n) n h))
+all-at p n h k l = least-false-keeps p n k (omega (arith, eqb-true (leastFalse p n) n h))
 
 pub all-same : (p q : ℕ → Bool) (n : ℕ) → ((k : ℕ) → k < n → p k ≡ q k) → all p n ≡ all q n
 all-same p q n h = iff (all p n) (all q n) (λ e. all-intro q n (λ k l. sym (h k l) ∙ all-at p n e k l)) (λ e. all-intro p n (λ k l. h k l ∙ all-at q n e k l))
 
-pub all-yes : (p : ℕ → Bool) (n r : ℕ) → r ≡ first p n → r ≡ n → all p n ≡ true
+pub all-yes : (p : ℕ → Bool) (n r : ℕ) → r ≡ leastFalse p n → r ≡ n → all p n ≡ true
 unfolding all
 all-yes p n r e h = eq-eqb _ _ (sym e ∙ h)
 
-pub all-no : (p : ℕ → Bool) (n r : ℕ) → r ≡ first p n → (r ≡ n → ⊥) → all p n ≡ false
+pub all-no : (p : ℕ → Bool) (n r : ℕ) → r ≡ leastFalse p n → (r ≡ n → ⊥) → all p n ≡ false
 unfolding all
 all-no p n r e h = ne-eqb _ _ (λ q. h (e ∙ q))
 

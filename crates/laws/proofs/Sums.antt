@@ -5,7 +5,8 @@ use mathlib.Core.Path.{_≡_, refl, ap, _∙_}
 use native.Mathlib.Nat.{eq-or-lt-of-le}
 use native.Mathlib.Numerals.{add-one}
 use native.Mathlib.Omega.{arith}
-use Rattle.laws.specs.Search.{greatest, total}
+use Rattle.laws.specs.Parts.{greatest}
+use Rattle.laws.specs.Search.{total}
 use Rattle.laws.proofs.Quotients.{times-more}
 use Rattle.laws.proofs.Booleans.{lt-or-le}
 

@@ -1,4 +1,4 @@
--- Tests in order: a chain of conditions, and a chain of refusals.
+-- Must be believed. Tests in order: a chain of conditions, and a chain of refusals.
 use Prim.Native.Nat.{ℕ}
 use mathlib.Core.Bool.{Bool, true, false, cond}
 use lib.Dec.{leb, eqb}

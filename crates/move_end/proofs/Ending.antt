@@ -4,18 +4,19 @@ use Rattle.laws.proofs.Prelude.{ℕ, suc, _+_, _-_, _*_, _/_, _%_, _≤_, _<_, 
 use Rattle.view.specs.declared.View.{View}
 use Rattle.view.specs.Limits.{offsetAllowed}
 use Rattle.view.specs.Types.{PaperView, paper, whole, extentOf}
-use Rattle.view.specs.Rules.{instances, Valid}
+use Rattle.view.specs.Rules.{instances}
+use Rattle.view.specs.Acceptance.{Valid}
 use Rattle.view.specs.Places.{place, byteOf, dataSize}
 use Rattle.view.proofs.Paper.{paper-instances}
 use Rattle.view.proofs.Accepted.{facts, instances-some}
-use Rattle.view.specs.Etypes.{reachOf}
+use Rattle.view.specs.Parts.{reachOf}
 use Rattle.view_place.specs.declared.Spot.{Spot}
-use Rattle.view_place.specs.Spots.{spotAt, nextSpot}
+use Rattle.view_place.specs.Parts.{spotAt, nextSpot}
 use Rattle.view.proofs.Held.{record-some}
-use Rattle.move_read.specs.Moves.{fileByte, writeEnd}
-use Rattle.move_read.specs.Parts.{Ranged}
+use Rattle.move_read.specs.Moves.{fileByte}
+use Rattle.move_read.specs.Parts.{writeEnd, Ranged}
 use Rattle.move_read.proofs.Etypes.{reach, entries-valid, data-before, data-last}
-use Rattle.move_read.proofs.Walking.{file-byte-run, Walking, walk-none, walk-more, walk-place, walk-end-fits, positive, first-is, last-bound}
+use Rattle.move_read.proofs.Walking.{file-byte-run, Walking, walk-none, walk-more, walk-place, walk-end-fits, positive, begin-natural, last-bound}
 use Rattle.move_read.proofs.Writing.{write-end-none, write-end-only}
 
 -- the same instance, j tiles later
@@ -139,7 +140,7 @@ module _ (v : View) (o : ℤ) (c : ℕ) (h : Ranged v o c) (n : c ≡ 0 → ⊥)
     unfolding ends
     ending-end r x s end g l =
         let d : x - (first + (c - t)) ≡ t = omega (arith, g .walk .reached) in
-        let f = first-is v o c h n first read in
+        let f = begin-natural v o c h n first read in
         let w : t ≡ min c (instances (paper v)) = e ∙ ap (min c) (sym (paper-instances v (omega (arith, entries-valid v (h .valid) .some)))) in
         g .is ∙ ap (greatest (λ i. endAt v (first + (c - t) + i))) d ∙ tail-is v (h .valid) first c t w ∙ ap (λ (y : ℕ). writeEnd (paper v) y c) f
 

@@ -1,9 +1,8 @@
 // Where a write ends: the end of the highest byte that it maps to, which check 14 and the new size go by.
 ghost use mathlib.Core.Path.{_≡_};
 ghost use Rattle.view.specs.Types.{paper, whole};
-ghost use Rattle.view.specs.Numbers.{viewWith};
-ghost use Rattle.move_read.specs.Moves.{writeEnd};
-ghost use Rattle.move_read.specs.Parts.{Ranged};
+ghost use Rattle.view.specs.Parts.{viewWith};
+ghost use Rattle.move_read.specs.Parts.{writeEnd, Ranged};
 use handle::Access;
 use view::BytePos;
 use view::Numbers;

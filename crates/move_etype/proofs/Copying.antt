@@ -6,7 +6,7 @@ use Rattle.view.specs.Places.{packedBefore, dataAt}
 use Rattle.view.proofs.Accepted.{width-small}
 use Rattle.view.proofs.Packing.{data-run}
 use Rattle.view.proofs.Etypes.{Summed, summed-none, summed-more, summed-end, widths-valid, entry-held, entry-scaled}
-use Rattle.view.specs.Etypes.{entryEnd, reachOf, sizeOf}
+use Rattle.view.specs.Parts.{entryEnd, reachOf, sizeOf}
 use Rattle.move_run.specs.Parts.{onward, byteFrom}
 use Rattle.move_etype.specs.Parts.{typeOf, placeIn, byteIn, Lies}
 

@@ -1,4 +1,4 @@
--- What the copiers of one etype move. A reader need not believe these: the contracts of calls cite `byteOf` and `dataSize`, and the proofs show that these make them up.
+-- Need not be believed. What the copiers of one etype move: the contracts of calls cite `byteOf` and `dataSize`, and the proofs show that these make them up.
 use Prim.Native.Nat.{ℕ, _+_, _≤_, _<_}
 use mathlib.Core.Bool.{true}
 use mathlib.Core.List.{List}
@@ -8,7 +8,7 @@ use Rattle.laws.specs.Lists.{nth, tabulate}
 use Rattle.view.specs.Limits.{widthAllowed}
 use Rattle.view.specs.Types.{PaperType}
 use Rattle.view.specs.Places.{dataAt}
-use Rattle.view.specs.Etypes.{EntriesValid, reachOf, sizeOf}
+use Rattle.view.specs.Parts.{EntriesValid, reachOf, sizeOf}
 
 -- n entries of widths ws and displacements ds, as a type; its extent plays no part in where its data lie
 unfoldable pub typeOf : ℕ → List ℕ → List ℕ → PaperType

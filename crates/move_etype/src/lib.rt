@@ -1,8 +1,9 @@
 // Copying the data of one etype. These functions are pub for our own crates: the movers meet what is required here.
 ghost use mathlib.Core.Path.{_≡_};
 ghost use lib.ListN.{length};
-ghost use Rattle.laws.specs.Lists.{nth, store, front};
-ghost use Rattle.view.specs.Etypes.{sizeOf};
+ghost use Rattle.laws.specs.Lists.{nth};
+ghost use Rattle.laws.specs.Parts.{store, front};
+ghost use Rattle.view.specs.Parts.{sizeOf};
 ghost use Rattle.move_etype.specs.Parts.{placeIn, byteIn, Lies};
 use view::BytePos;
 use view::Numbers;

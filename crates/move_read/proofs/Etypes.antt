@@ -2,15 +2,15 @@
 use Rattle.laws.proofs.Prelude.{ℕ, _+_, _-_, _≤_, _<_, _≡_, refl, sym, ap, _∙_, Bool, true, false, arith, mul-le-mul, total, greatest-least, greatest-above, greatest-one, total-same, total-most}
 use Rattle.view.specs.declared.View.{View}
 use Rattle.view.specs.Types.{paper, entries, widthAt, displacementAt, whole}
-use Rattle.view.specs.Rules.{Valid}
+use Rattle.view.specs.Acceptance.{Valid}
 use Rattle.view.specs.Places.{place, packedBefore, entryOf, dataAt, byteOf, dataSize}
 use Rattle.view.proofs.Paper.{paper-entries, paper-width, paper-displacement}
 use Rattle.view.proofs.Accepted.{Facts, facts}
 use Rattle.view.proofs.Held.{some-entry, few-entries, record-entry}
 use Rattle.view.proofs.Packing.{packed-part, entry-below, entry-ends, entry-begins, data-run}
-use Rattle.view.specs.Etypes.{EntriesValid, entryEnd, reachOf, sizeOf}
+use Rattle.view.specs.Parts.{EntriesValid, entryEnd, reachOf, sizeOf}
 use Rattle.move_etype.specs.Parts.{typeOf, placeIn}
-use Rattle.move_read.specs.Moves.{inFile}
+use Rattle.move_read.specs.Parts.{inFile}
 use Rattle.move_read.proofs.Reading.{in-file, in-file-at}
 
 not-true-false : (b : Bool) → (b ≡ true → ⊥) → b ≡ false

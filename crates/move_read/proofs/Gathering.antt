@@ -4,14 +4,14 @@ use Rattle.view.specs.declared.View.{View}
 use Rattle.view.specs.Types.{PaperView, paper, whole}
 use Rattle.view.specs.Places.{place, byteOf, dataSize}
 use Rattle.view.proofs.Held.{record-allowed}
-use Rattle.view.specs.Etypes.{reachOf, sizeOf}
+use Rattle.view.specs.Parts.{reachOf, sizeOf}
 use Rattle.view_place.specs.declared.Spot.{Spot}
-use Rattle.view_place.specs.Spots.{spotAt, nextSpot}
+use Rattle.view_place.specs.Parts.{spotAt, nextSpot}
 use Rattle.move_etype.specs.Parts.{byteIn, placeIn, Lies}
-use Rattle.move_read.specs.Moves.{fileByte, inFile, moved, readInto}
-use Rattle.move_read.specs.Parts.{Movable, ReadDone}
+use Rattle.move_read.specs.Moves.{fileByte}
+use Rattle.move_read.specs.Parts.{inFile, moved, readInto, Movable, ReadDone}
 use Rattle.move_read.proofs.Etypes.{entries-valid, data-is, place-in, in-file-yes, in-file-no}
-use Rattle.move_read.proofs.Walking.{file-byte-run, Walking, walk-more, walk-place, walk-end-fits, walk-size, walk-room, first-is, walk-begun}
+use Rattle.move_read.proofs.Walking.{file-byte-run, Walking, walk-more, walk-place, walk-end-fits, walk-size, walk-room, begin-natural, walk-begun}
 
 -- etype o + t lies in the file
 abbrev pub lying : PaperView → ℕ → ℕ → ℕ → Bool
@@ -39,7 +39,7 @@ move-none v file size o c buf e = record {
 
 module _ (v : View) (file buf₀ : List ℕ) (size : ℕ) (o : ℤ) (c : ℕ) (h : Movable v (length file) size o c (length buf₀)) (some : c ≡ 0 → ⊥) (first : ℕ) (read : first ≡ whole (toZ w64 (ofZ w64 o))) (S r : ℕ) where
   is : first ≡ whole o
-  is = first-is v o c (h .ranged) some first read
+  is = begin-natural v o c (h .ranged) some first read
 
   pub gathering-none : S ≡ sizeOf (v .numbers .etype .entries) (v .widths) → r ≡ reachOf (v .widths) (v .displacements) (v .numbers .etype .entries) → (s : Spot) → s ≡ spotAt (v .numbers) (whole o) → length buf₀ < 2 ^ 64 → Gathering v file size first c S r buf₀ buf₀ first s
   unfolding readInto

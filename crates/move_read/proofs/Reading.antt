@@ -1,8 +1,9 @@
 -- A read (a module may not be called `Reads`): the number that `moved` finds, and the buffer that `readInto` makes, are the ones that document 01 describes, and no others are.
-use Rattle.laws.proofs.Prelude.{ℕ, _+_, _-_, _*_, _≤_, _<_, _≡_, sym, _∙_, true, false, List, ⊎-elim, arith, length, ext-getD, ltb-true, lt-ltb, nth, lt-or-le, not-both, first-le, first-keeps, first-breaks, all-intro, all-at, length-store, front-at, front-past}
+use Rattle.laws.proofs.Prelude.{ℕ, _+_, _-_, _*_, _≤_, _<_, _≡_, sym, _∙_, true, false, List, ⊎-elim, arith, length, ext-getD, ltb-true, lt-ltb, nth, lt-or-le, not-both, least-false-le, least-false-keeps, least-false-breaks, all-intro, all-at, length-store, front-at, front-past}
 use Rattle.view.specs.Types.{PaperView}
 use Rattle.view.specs.Places.{byteOf, dataSize}
-use Rattle.move_read.specs.Moves.{AllBelow, IsMoved, inFile, moved, IsRead, readInto}
+use Rattle.move_read.specs.Moves.{AllBelow, IsMoved, IsRead}
+use Rattle.move_read.specs.Parts.{inFile, moved, readInto}
 
 -- ---- how many etypes a read moves
 
@@ -21,12 +22,12 @@ module _ (v : PaperView) (size o c : ℕ) where
   unfolding moved
   moved-below x j a b l =
       let e : o + (x - o) ≡ x = omega arith in
-      in-file-at v size x (rw e at (first-keeps (λ t. inFile v size (o + t)) c (x - o) (omega arith))) j l
+      in-file-at v size x (rw e at (least-false-keeps (λ t. inFile v size (o + t)) c (x - o) (omega arith))) j l
 
   -- the first that fails does not, if there is one
   moved-breaks : moved v size o c < c → inFile v size (o + moved v size o c) ≡ false
   unfolding moved
-  moved-breaks l = first-breaks (λ t. inFile v size (o + t)) c l
+  moved-breaks l = least-false-breaks (λ t. inFile v size (o + t)) c l
 
   -- k etypes that all lie below the size do not reach past the first that fails
   moved-greatest : (k : ℕ) → k ≤ c → AllBelow v size o k → k ≤ moved v size o c
@@ -38,7 +39,7 @@ module _ (v : PaperView) (size o c : ℕ) where
   -- `moved` is the greatest such number
   pub moved-is : IsMoved v size o c (moved v size o c)
   unfolding moved
-  moved-is = record { most = first-le _ c; below = moved-below; greatest = moved-greatest }
+  moved-is = record { most = least-false-le _ c; below = moved-below; greatest = moved-greatest }
 
   -- and nothing else is: of two greatest numbers each is at most the other
   pub moved-only : (m : ℕ) → IsMoved v size o c m → m ≡ moved v size o c

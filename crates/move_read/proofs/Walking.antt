@@ -4,12 +4,11 @@ use Rattle.view.specs.declared.View.{View}
 use Rattle.view.specs.declared.Numbers.{Numbers}
 use Rattle.view.specs.Limits.{offsetAllowed}
 use Rattle.view.specs.Types.{PaperView, paper, whole}
-use Rattle.view.specs.Rules.{Valid}
+use Rattle.view.specs.Acceptance.{Valid}
 use Rattle.view.specs.Places.{place, byteOf, dataSize}
-use Rattle.view.specs.Numbers.{viewWith}
-use Rattle.view.specs.Etypes.{reachOf, sizeOf}
+use Rattle.view.specs.Parts.{viewWith, reachOf, sizeOf}
 use Rattle.view_place.specs.declared.Spot.{Spot}
-use Rattle.view_place.specs.Spots.{Tiled, spotAt, nextSpot, SpotValid}
+use Rattle.view_place.specs.Parts.{Tiled, spotAt, nextSpot, SpotValid}
 use Rattle.view_place.proofs.Placing.{offset-read, spot-held, spot-placed, spot-step, spot-small, spot-valid, spot-next}
 use Rattle.view_place.proofs.Laid.{tiled, origins-low, place-is}
 use Rattle.move_read.specs.Moves.{fileByte}
@@ -81,17 +80,17 @@ module _ (v : View) (o : ℤ) (c : ℕ) (h : Ranged v o c) (some : c ≡ 0 → �
 
   -- `first` is the access's offset as the machine reads it
   module _ (first : ℕ) (read : first ≡ whole (toZ w64 (ofZ w64 o))) where
-    pub first-is : first ≡ whole o
-    first-is = read ∙ ap whole (offset-read o move-offset)
+    pub begin-natural : first ≡ whole o
+    begin-natural = read ∙ ap whole (offset-read o move-offset)
 
     pub last-bound : first + c ≤ 4294967296
-    last-bound = omega (arith, first-is, h .last)
+    last-bound = omega (arith, begin-natural, h .last)
 
     pub last-fits : Fits w64 (first + c)
     last-fits = record { fits = omega (arith, last-bound) }
 
     pub walk-begun : (s : Spot) → s ≡ spotAt (v .numbers) (whole o) → Walking v first (first + c) first s
-    walk-begun s at = walk-none v first (first + c) s (h .valid) last-bound (omega arith) (rw first-is at)
+    walk-begun s at = walk-none v first (first + c) s (h .valid) last-bound (omega arith) (rw begin-natural at)
 
 -- ---- what the functions on places ask for, of a view lent as numbers and lists
 

@@ -1,8 +1,10 @@
--- A write: the end that `writeEnd` finds, and the file that `written` makes, are the ones that document 01 describes, and no others are.
-use Rattle.laws.proofs.Prelude.{ℕ, _+_, _-_, _*_, _/_, _%_, _≤_, _<_, _≡_, sym, _∙_, Bool, not, List, _⊎_, inl, inr, ⊎-elim, arith, div-add-mod', mod-lt, length, eqb, ext-getD, eqb-true, eq-eqb, not-false, not-true, first, nth, store, lt-or-le, not-both, first-keeps, first-breaks, length-store, store-at, store-other, greatest-above, greatest-least}
+-- A write: the end that `writeEnd` finds, the size that `newSize` gives, and the file that `written` makes, are the ones that document 01 describes, and no others are.
+use Rattle.laws.proofs.Prelude.{ℕ, _+_, _-_, _*_, _/_, _%_, _≤_, _<_, max, _≡_, refl, sym, ap, _∙_, Bool, not, List, _⊎_, inl, inr, ⊎-elim, arith, div-add-mod', mod-lt, length, eqb, ext-getD, eqb-true, eq-eqb, not-false, not-true, leastFalse, nth, store, lt-or-le, not-both, least-false-keeps, least-false-breaks, length-store, store-at, store-other, greatest-above, greatest-least}
 use Rattle.view.specs.Types.{PaperView}
-use Rattle.view.specs.Places.{Distinct, dataSize}
-use Rattle.move_read.specs.Moves.{fileByte, IsWriteEnd, writeEnd, newSize, Unmapped, IsWritten, written}
+use Rattle.view.specs.Parts.{Distinct}
+use Rattle.view.specs.Places.{dataSize}
+use Rattle.move_read.specs.Moves.{fileByte, IsWriteEnd, IsNewSize, Unmapped, IsWritten}
+use Rattle.move_read.specs.Parts.{writeEnd, newSize, written}
 
 -- ---- the end of the highest byte written
 
@@ -26,6 +28,19 @@ module _ (v : PaperView) (o c : ℕ) where
 pub write-end-none : (v : PaperView) (o : ℕ) → writeEnd v o 0 ≡ 0
 write-end-none v o = omega (arith, write-end-is v o 0 .smallest 0 (λ i l. omega arith))
 
+-- ---- the new size
+
+module _ (v : PaperView) (size o c : ℕ) where
+  -- `newSize` is the larger of the two
+  pub new-size-is : IsNewSize v size o c (newSize v size o c)
+  unfolding newSize
+  new-size-is = record { end = writeEnd v o c; highest = write-end-is v o c; larger = refl }
+
+  -- and nothing else is, as there is one such end
+  pub new-size-only : (new : ℕ) → IsNewSize v size o c new → new ≡ newSize v size o c
+  unfolding newSize
+  new-size-only new h = h .larger ∙ ap (max size) (write-end-only v o c (h .end) (h .highest))
+
 -- ---- the bytes of a write
 
 -- different bytes of the data lie at different bytes of the file, where different pairs do
@@ -44,7 +59,7 @@ pub record Found (v : PaperView) (o c b : ℕ) : Type 0 where
 
 -- a byte is one that the write maps, or one that it does not: a search through the data says which
 pub mapped-or-not : (v : PaperView) (o c b : ℕ) → Found v o c b ⊎ Unmapped v o c b
-mapped-or-not v o c b = ⊎-elim found none (lt-or-le (first misses n) n)
+mapped-or-not v o c b = ⊎-elim found none (lt-or-le (leastFalse misses n) n)
   where
     n : ℕ
     n = c * dataSize v
@@ -52,18 +67,18 @@ mapped-or-not v o c b = ⊎-elim found none (lt-or-le (first misses n) n)
     misses : ℕ → Bool
     misses i = not (eqb b (fileByte v o i))
 
-    found : first misses n < n → Found v o c b ⊎ Unmapped v o c b
-    found l = inl (record { index = first misses n; below = l; lies = eqb-true _ _ (not-false _ (first-breaks misses n l)) })
+    found : leastFalse misses n < n → Found v o c b ⊎ Unmapped v o c b
+    found l = inl (record { index = leastFalse misses n; below = l; lies = eqb-true _ _ (not-false _ (least-false-breaks misses n l)) })
 
-    none : n ≤ first misses n → Found v o c b ⊎ Unmapped v o c b
-    none l = inr (λ i q e. not-both (eq-eqb _ _ e) (not-true _ (first-keeps misses n i (omega arith))))
+    none : n ≤ leastFalse misses n → Found v o c b ⊎ Unmapped v o c b
+    none l = inr (λ i q e. not-both (eq-eqb _ _ e) (not-true _ (least-false-keeps misses n i (omega arith))))
 
 -- ---- the file after a write
 
 -- two files that writes of two buffers leave agree at each unmapped byte
-module _ (v : PaperView) (size o c : ℕ) (buffer buffer' file a z : List ℕ) (g : IsWritten v size o c buffer file a) (h : IsWritten v size o c buffer' file z) where
+module _ (v : PaperView) (size new o c : ℕ) (buffer buffer' file a z : List ℕ) (g : IsWritten v size new o c buffer file a) (h : IsWritten v size new o c buffer' file z) where
   -- outside the gap, it is the old file's in both
-  same-valid : (b : ℕ) → Unmapped v o c b → (b < size) ⊎ (newSize v size o c ≤ b) → nth a b ≡ nth z b
+  same-valid : (b : ℕ) → Unmapped v o c b → (b < size) ⊎ (new ≤ b) → nth a b ≡ nth z b
   same-valid b u q = g .rest b q u ∙ sym (h .rest b q u)
 
   -- in the gap it is 0 in both
@@ -71,16 +86,16 @@ module _ (v : PaperView) (size o c : ℕ) (buffer buffer' file a z : List ℕ) (
   same-unmapped b u = ⊎-elim (λ l. same-valid b u (inl l)) past (lt-or-le b size)
     where
       past : size ≤ b → nth a b ≡ nth z b
-      past l = ⊎-elim (λ q. g .gap b l q u ∙ sym (h .gap b l q u)) (λ q. same-valid b u (inr q)) (lt-or-le b (newSize v size o c))
+      past l = ⊎-elim (λ q. g .gap b l q u ∙ sym (h .gap b l q u)) (λ q. same-valid b u (inr q)) (lt-or-le b new)
 
 -- two that writes of one buffer leave agree at each byte
-module _ (v : PaperView) (size o c : ℕ) (buffer file a z : List ℕ) (g : IsWritten v size o c buffer file a) (h : IsWritten v size o c buffer file z) where
+module _ (v : PaperView) (size new o c : ℕ) (buffer file a z : List ℕ) (g : IsWritten v size new o c buffer file a) (h : IsWritten v size new o c buffer file z) where
   -- a mapped byte is the buffer's in both
   same-mapped : (b : ℕ) → Found v o c b → nth a b ≡ nth z b
   same-mapped b f = rw (f .lies) (g .mapped (f .index) (f .below) ∙ sym (h .mapped (f .index) (f .below)))
 
   same-at : (b : ℕ) → nth a b ≡ nth z b
-  same-at b = ⊎-elim (same-mapped b) (same-unmapped v size o c buffer buffer file a z g h b) (mapped-or-not v o c b)
+  same-at b = ⊎-elim (same-mapped b) (same-unmapped v size new o c buffer buffer file a z g h b) (mapped-or-not v o c b)
 
   written-same : a ≡ z
   written-same = ext-getD 0 a z (g .long ∙ sym (h .long)) (λ b l. same-at b)
@@ -121,7 +136,7 @@ module _ (v : PaperView) (size o c : ℕ) (buffer file : List ℕ) (distinct : D
       inside = omega (arith, write-end-is v o c .above i l, filled-long v size o c file)
 
   -- `written` sets the mapped bytes, fills the gap and keeps the rest
-  pub written-is : IsWritten v size o c buffer file (written v size o c buffer file)
+  pub written-is : IsWritten v size (newSize v size o c) o c buffer file (written v size o c buffer file)
   unfolding written filled
   written-is = record {
     long = length-store _ _ (c * dataSize v) (filled v size o c file) ∙ filled-long v size o c file;
@@ -131,5 +146,5 @@ module _ (v : PaperView) (size o c : ℕ) (buffer file : List ℕ) (distinct : D
   }
 
   -- and no other file is so, as two that are agree
-  pub written-only : (after : List ℕ) → IsWritten v size o c buffer file after → after ≡ written v size o c buffer file
-  written-only after h = written-same v size o c buffer file after (written v size o c buffer file) h written-is
+  pub written-only : (after : List ℕ) → IsWritten v size (newSize v size o c) o c buffer file after → after ≡ written v size o c buffer file
+  written-only after h = written-same v size (newSize v size o c) o c buffer file after (written v size o c buffer file) h written-is

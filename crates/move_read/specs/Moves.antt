@@ -1,13 +1,10 @@
--- Document 01, "Moving data": what a read moves and leaves, and what a write sets, fills and grows.
-use Prim.Native.Nat.{ℕ, _+_, _-_, _*_, _/_, _%_, _≤_, _<_, max}
-use mathlib.Core.Bool.{Bool}
+-- Must be believed. Document 01, "Moving data": what a read moves and leaves, and what a write sets, fills and grows.
+use Prim.Native.Nat.{ℕ, _+_, _*_, _/_, _%_, _≤_, _<_, max}
 use mathlib.Core.List.{List}
 use mathlib.Core.Logic.{_⊎_}
 use mathlib.Core.Path.{_≡_}
-use lib.Dec.{ltb}
 use lib.ListN.{length}
-use Rattle.laws.specs.Search.{first, all, greatest}
-use Rattle.laws.specs.Lists.{nth, store, front}
+use Rattle.laws.specs.Lists.{nth}
 use Rattle.view.specs.Types.{PaperView}
 use Rattle.view.specs.Places.{byteOf, dataSize}
 
@@ -27,21 +24,11 @@ pub record IsMoved (v : PaperView) (size o c m : ℕ) : Type 0 where
   pub below : AllBelow v size o m
   pub greatest : (k : ℕ) → k ≤ c → AllBelow v size o k → k ≤ m
 
--- every data byte of the etype at x lies below the size
-unfoldable pub inFile : PaperView → ℕ → ℕ → Bool
-inFile v size x = all (λ j. ltb (byteOf v x j) size) (dataSize v)
-
-unfoldable pub moved : PaperView → ℕ → ℕ → ℕ → ℕ
-moved v size o c = first (λ t. inFile v size (o + t)) c
-
 -- the first m·S bytes of the buffer get the data in offset order; the rest stays
 pub record IsRead (v : PaperView) (file : List ℕ) (o m : ℕ) (buffer after : List ℕ) : Type 0 where
   pub long : length after ≡ length buffer
   pub got : (i : ℕ) → i < m * dataSize v → nth after i ≡ nth file (fileByte v o i)
   pub rest : (i : ℕ) → m * dataSize v ≤ i → nth after i ≡ nth buffer i
-
-unfoldable pub readInto : PaperView → List ℕ → ℕ → ℕ → List ℕ → List ℕ
-readInto v file o m buffer = front (λ i. nth file (fileByte v o i)) (m * dataSize v) buffer
 
 -- ---- a write of c etypes at o
 
@@ -50,26 +37,19 @@ pub record IsWriteEnd (v : PaperView) (o c e : ℕ) : Type 0 where
   pub above : (i : ℕ) → i < c * dataSize v → fileByte v o i < e
   pub smallest : (b : ℕ) → ((i : ℕ) → i < c * dataSize v → fileByte v o i < b) → e ≤ b
 
-unfoldable pub writeEnd : PaperView → ℕ → ℕ → ℕ
-writeEnd v o c = greatest (λ i. fileByte v o i + 1) (c * dataSize v)
-
--- the new size: the larger of the old size and that end
-unfoldable pub newSize : PaperView → ℕ → ℕ → ℕ → ℕ
-newSize v size o c = max size (writeEnd v o c)
+-- the new size: the larger of the old size and the end of the highest byte written
+pub record IsNewSize (v : PaperView) (size o c new : ℕ) : Type 0 where
+  pub end : ℕ
+  pub highest : IsWriteEnd v o c end
+  pub larger : new ≡ max size end
 
 -- the write does not map byte b
 abbrev pub Unmapped : PaperView → ℕ → ℕ → ℕ → Type 0
 Unmapped v o c b = (i : ℕ) → i < c * dataSize v → b ≡ fileByte v o i → ⊥
 
 -- exactly the mapped bytes are set; bytes between old and new size that it doesn't map become 0; all else in the file stays, beyond the new size too
-pub record IsWritten (v : PaperView) (size o c : ℕ) (buffer file after : List ℕ) : Type 0 where
+pub record IsWritten (v : PaperView) (size new o c : ℕ) (buffer file after : List ℕ) : Type 0 where
   pub long : length after ≡ length file
   pub mapped : (i : ℕ) → i < c * dataSize v → nth after (fileByte v o i) ≡ nth buffer i
-  pub gap : (b : ℕ) → size ≤ b → b < newSize v size o c → Unmapped v o c b → nth after b ≡ 0
-  pub rest : (b : ℕ) → (b < size) ⊎ (newSize v size o c ≤ b) → Unmapped v o c b → nth after b ≡ nth file b
-
--- the gap is filled first, whole, then the data are stored at their places
-unfoldable pub written : PaperView → ℕ → ℕ → ℕ → List ℕ → List ℕ → List ℕ
-written v size o c buffer file =
-    store (fileByte v o) (nth buffer) (c * dataSize v)
-    (store (λ i. size + i) (λ i. 0) (newSize v size o c - size) file)
+  pub gap : (b : ℕ) → size ≤ b → b < new → Unmapped v o c b → nth after b ≡ 0
+  pub rest : (b : ℕ) → (b < size) ⊎ (new ≤ b) → Unmapped v o c b → nth after b ≡ nth file b

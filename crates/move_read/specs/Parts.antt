@@ -1,15 +1,48 @@
--- What the movers ask of their callers, and what they leave.
-use Prim.Native.Nat.{ℕ, _+_, _*_, _≤_, _<_}
-use mathlib.Core.Bool.{true}
+-- Need not be believed. What computes where a claim has the property, what the movers ask of their callers, and what they leave.
+use Prim.Native.Nat.{ℕ, _+_, _*_, _≤_, _<_, _-_, max}
+use mathlib.Core.Bool.{true, Bool}
 use mathlib.Core.List.{List}
 use mathlib.Core.Path.{_≡_}
+use lib.Dec.{ltb}
 use lib.IntN.{ℤ}
-use Rattle.view.specs.declared.View.{View}
+use Rattle.laws.specs.Lists.{nth}
+use Rattle.laws.specs.Parts.{store, front, greatest}
+use Rattle.laws.specs.Search.{leastFalse, all}
 use Rattle.view.specs.Limits.{offsetCount, maxFileLength, offsetAllowed}
-use Rattle.view.specs.Types.{paper, whole}
-use Rattle.view.specs.Rules.{Valid}
-use Rattle.view.specs.Places.{dataSize}
-use Rattle.move_read.specs.Moves.{moved, readInto}
+use Rattle.view.specs.Places.{dataSize, byteOf}
+use Rattle.view.specs.Acceptance.{Valid}
+use Rattle.view.specs.Types.{paper, whole, PaperView}
+use Rattle.view.specs.declared.View.{View}
+use Rattle.move_read.specs.Moves.{fileByte}
+
+-- ---- a read: the properties are `IsMoved` and `IsRead`
+
+-- every data byte of the etype at x lies below the size
+unfoldable pub inFile : PaperView → ℕ → ℕ → Bool
+inFile v size x = all (λ j. ltb (byteOf v x j) size) (dataSize v)
+
+unfoldable pub moved : PaperView → ℕ → ℕ → ℕ → ℕ
+moved v size o c = leastFalse (λ t. inFile v size (o + t)) c
+
+unfoldable pub readInto : PaperView → List ℕ → ℕ → ℕ → List ℕ → List ℕ
+readInto v file o m buffer = front (λ i. nth file (fileByte v o i)) (m * dataSize v) buffer
+
+-- ---- a write: the properties are `IsWriteEnd`, `IsNewSize` and `IsWritten`
+
+unfoldable pub writeEnd : PaperView → ℕ → ℕ → ℕ
+writeEnd v o c = greatest (λ i. fileByte v o i + 1) (c * dataSize v)
+
+-- the new size: the larger of the old size and that end
+unfoldable pub newSize : PaperView → ℕ → ℕ → ℕ → ℕ
+newSize v size o c = max size (writeEnd v o c)
+
+-- the gap is filled first, whole, then the data are stored at their places
+unfoldable pub written : PaperView → ℕ → ℕ → ℕ → List ℕ → List ℕ → List ℕ
+written v size o c buffer file =
+    store (fileByte v o) (nth buffer) (c * dataSize v)
+    (store (λ i. size + i) (λ i. 0) (newSize v size o c - size) file)
+
+-- ---- what is asked and left
 
 -- c etypes at o have places: what checks 1 and 12 leave
 pub record Ranged (v : View) (o : ℤ) (c : ℕ) : Type 0 where

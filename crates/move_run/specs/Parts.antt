@@ -1,4 +1,4 @@
--- What a run of bytes is. A reader need not believe these: the contracts of calls cite `byteOf` and `written`, and the proofs show that these make them up.
+-- Need not be believed. What a run of bytes is: the contracts of calls cite `byteOf` and `written`, and the proofs show that these make them up.
 use Prim.Native.Nat.{ℕ, _+_, _≤_}
 use mathlib.Core.List.{List}
 use Rattle.laws.specs.Lists.{nth}

@@ -3,7 +3,7 @@ ghost use mathlib.Core.Path.{_≡_};
 ghost use Prim.Native.Nat.{_-_, _≤_};
 ghost use mathlib.Core.Bool.{true};
 ghost use lib.ListN.{length};
-ghost use Rattle.laws.specs.Lists.{store};
+ghost use Rattle.laws.specs.Parts.{store};
 ghost use Rattle.view.specs.Limits.{widthAllowed};
 ghost use Rattle.move_run.specs.Parts.{onward, byteFrom, Runs, always};
 use view::BytePos;

@@ -5,15 +5,16 @@ use Rattle.view.specs.Types.{paper, whole}
 use Rattle.view.specs.Places.{place, byteOf, dataSize}
 use Rattle.view.proofs.Held.{record-allowed}
 use Rattle.view_place.specs.declared.Spot.{Spot}
-use Rattle.view_place.specs.Spots.{spotAt, nextSpot}
+use Rattle.view_place.specs.Parts.{spotAt, nextSpot}
 use Rattle.handle.specs.declared.FileRecord.{FileRecord}
 use Rattle.handle.specs.Handles.{withSize}
 use Rattle.move_run.specs.Parts.{onward, always}
-use Rattle.view.specs.Etypes.{sizeOf}
+use Rattle.view.specs.Parts.{sizeOf}
 use Rattle.move_etype.specs.Parts.{placeIn, Lies}
-use Rattle.move_read.specs.Moves.{fileByte, writeEnd, newSize, written}
+use Rattle.move_read.specs.Moves.{fileByte}
+use Rattle.move_read.specs.Parts.{writeEnd, newSize, written}
 use Rattle.move_read.proofs.Etypes.{reach, entries-valid, data-is, place-in, data-last}
-use Rattle.move_read.proofs.Walking.{file-byte-run, Walking, walk-more, walk-place, walk-size, walk-room, first-is, walk-begun}
+use Rattle.move_read.proofs.Walking.{file-byte-run, Walking, walk-more, walk-place, walk-size, walk-room, begin-natural, walk-begun}
 use Rattle.move_read.proofs.Writing.{write-end-is}
 use Rattle.move_write.specs.Parts.{Storable, Grown}
 
@@ -33,7 +34,7 @@ scatter-none v buf o c file e = rw (e, zero-mul (dataSize (paper v))) (store-non
 
 module _ (v : View) (buf file₀ : List ℕ) (o : ℤ) (c : ℕ) (h : Storable v (length file₀) o c (length buf)) (some : c ≡ 0 → ⊥) (first : ℕ) (read : first ≡ whole (toZ w64 (ofZ w64 o))) (S : ℕ) where
   is : first ≡ whole o
-  is = first-is v o c (h .ranged) some first read
+  is = begin-natural v o c (h .ranged) some first read
 
   pub scattering-none : S ≡ sizeOf (v .numbers .etype .entries) (v .widths) → (s : Spot) → s ≡ spotAt (v .numbers) (whole o) → length buf < 2 ^ 64 → Scattering v buf first c S file₀ file₀ first s
   scattering-none sized s at held =

@@ -1,16 +1,15 @@
--- What the writing mover asks of its callers, and what it leaves. A reader need not believe these: the contracts of calls cite move_read/specs/Moves.antt.
+-- Need not be believed. What the writing mover asks of its callers, and what it leaves: the contracts of calls cite `written` and `newSize`, which these make up, and the claim `Written` has the property.
 use Prim.Native.Nat.{ℕ, _+_, _-_, _*_, _≤_, max}
 use mathlib.Core.List.{List}
 use mathlib.Core.Path.{_≡_}
 use lib.IntN.{ℤ}
-use Rattle.laws.specs.Lists.{store}
+use Rattle.laws.specs.Parts.{store}
 use Rattle.view.specs.declared.View.{View}
 use Rattle.view.specs.Types.{paper, whole}
 use Rattle.view.specs.Places.{dataSize}
 use Rattle.handle.specs.declared.FileRecord.{FileRecord}
 use Rattle.handle.specs.Handles.{withSize}
-use Rattle.move_read.specs.Moves.{writeEnd}
-use Rattle.move_read.specs.Parts.{Ranged}
+use Rattle.move_read.specs.Parts.{writeEnd, Ranged}
 
 -- c etypes at o of a buffer of `buffer` bytes may be stored in a file of `len` bytes: what checks 1, 12, 13 and 14 leave
 pub record Storable (v : View) (len : ℕ) (o : ℤ) (c buffer : ℕ) : Type 0 where

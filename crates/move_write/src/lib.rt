@@ -1,12 +1,13 @@
-// The writing mover: storing a write's data etype by etype, and filling the gap. What a write does is defined in move_read/specs/Moves.antt.
+// The writing mover: storing a write's data etype by etype, and filling the gap. What a write does is said in move_read/specs/Moves.antt, and computed in Parts.antt beside it.
 // These functions are pub for our own crates: a handle's calls make checks 1, 12, 13 and 14 first, and meet what is required here.
 ghost use mathlib.Core.Path.{_≡_};
 ghost use Prim.Native.Nat.{_*_};
 ghost use lib.ListN.{length};
-ghost use Rattle.laws.specs.Lists.{nth, store};
+ghost use Rattle.laws.specs.Lists.{nth};
+ghost use Rattle.laws.specs.Parts.{store};
 ghost use Rattle.view.specs.Types.{paper, whole};
 ghost use Rattle.view.specs.Places.{dataSize};
-ghost use Rattle.view.specs.Numbers.{viewWith};
+ghost use Rattle.view.specs.Parts.{viewWith};
 ghost use Rattle.move_read.specs.Moves.{fileByte};
 ghost use Rattle.move_write.specs.Parts.{Storable, Growable, Grown};
 use handle::Access;

@@ -1,8 +1,7 @@
 -- What the loops of this crate test at one index, and that no sum of theirs wraps.
 use Rattle.laws.proofs.Prelude.{ℕ, _+_, _-_, _≤_, _<_, _≡_, sym, _∙_, Bool, true, false, not, List, arith, length, getD, leb, w64, Fits, le-leb, lt-leb, not-true, not-false, nth, Passed, passed-fails, passed-holds, all-intro}
-use Rattle.view.specs.Rules.{ordered}
+use Rattle.view.specs.Parts.{ordered, EntriesValid}
 use Rattle.rule_limits.specs.Parts.{entryFits}
-use Rattle.view.specs.Etypes.{EntriesValid}
 use Rattle.rule_entries.specs.Parts.{entryFitsAt, apartAt}
 
 -- ---- one entry

@@ -4,9 +4,7 @@ ghost use Prim.Native.Nat.{_≤_, _-_};
 ghost use lib.ListN.{length};
 ghost use Rattle.laws.specs.Lists.{nth};
 ghost use Rattle.laws.specs.Search.{all};
-ghost use Rattle.view.specs.Limits.{maxEtypeEntries};
-ghost use Rattle.view.specs.Rules.{ordered};
-ghost use Rattle.view.specs.Etypes.{EntriesValid};
+ghost use Rattle.view.specs.Parts.{maxEtypeEntries, ordered, EntriesValid};
 ghost use Rattle.rule_entries.specs.Parts.{entryFitsAt, apartAt};
 use view::PerEntry;
 

@@ -1,4 +1,4 @@
--- What the functions of this crate make and test, part by part. A reader need not believe these: the contract of `rule_set::accept` is `AcceptedAs`, and the proofs there show that the parts make it up.
+-- Need not be believed. What the functions of this crate make and test, part by part: the contract of `rule_set::accept` is `AcceptedAs`, and the proofs there show that the parts make it up.
 use Prim.Native.Nat.{ℕ, _+_, _-_, _*_, _/_, _%_, _≤_, _<_}
 use mathlib.Core.Bool.{Bool}
 use mathlib.Core.List.{List}
@@ -7,11 +7,12 @@ use lib.Dec.{leb, eqb}
 use lib.IntN.{ℤ, pos}
 use lib.ListN.{length, getD, replicate}
 use Rattle.laws.specs.Checks.{also}
-use Rattle.laws.specs.Lists.{nth, front}
+use Rattle.laws.specs.Lists.{nth}
+use Rattle.laws.specs.Parts.{front}
 use Rattle.laws.specs.Search.{all}
 use Rattle.view.specs.declared.View.{View}
 use Rattle.view.specs.declared.Numbers.{Numbers}
-use Rattle.view.specs.Limits.{maxEtypeEntries, maxInstances}
+use Rattle.view.specs.Parts.{maxEtypeEntries, maxInstances}
 use Rattle.view.specs.Types.{whole}
 
 -- displacement i of a list as a natural number

@@ -3,8 +3,9 @@
 ghost use mathlib.Core.Path.{_≡_};
 ghost use Prim.Native.Nat.{_≤_, _<_, _/_};
 ghost use lib.ListN.{length};
-ghost use Rattle.laws.specs.Lists.{front, nth};
-ghost use Rattle.view.specs.Limits.{maxEtypeEntries};
+ghost use Rattle.laws.specs.Parts.{front};
+ghost use Rattle.laws.specs.Lists.{nth};
+ghost use Rattle.view.specs.Parts.{maxEtypeEntries};
 ghost use Rattle.rule_groups.specs.Parts.{wholeAt, entryShifted, groupsMatch, groupOrigin, Recordable, viewRecord};
 use view::Etype;
 use view::Numbers;

@@ -1,6 +1,7 @@
 -- Holes, as the loop passes them: the first, those between instances, the last.
 use Rattle.laws.proofs.Prelude.{ℕ, zero, suc, _+_, _-_, _%_, _≤_, _<_, _≡_, sym, ap, _∙_, Bool, true, false, List, arith, getD, eqb, lt-ltb, le-ltb, eq-eqb, ne-eqb, all, nth, Passed, passed-none, passed-more, passed-fails, passed-holds}
-use Rattle.view.specs.Rules.{hole, holesFit}
+use Rattle.view.specs.Rules.{hole}
+use Rattle.view.specs.Parts.{holesFit}
 use Rattle.rule_instances.specs.Parts.{holeFits}
 
 -- ---- holes: the first, one between two instances, and the last

@@ -1,11 +1,11 @@
--- What the functions of this crate test, rule by rule, on k origins ps. A reader need not believe these: `rule_view::is_accepted` and `rule_set::accept` have the paper's definitions in their contracts, and the proofs show that these make them up.
+-- Need not be believed. What the functions of this crate test, rule by rule, on k origins ps: `rule_view::is_accepted` and `rule_set::accept` have the paper's definitions in their contracts, and the proofs show that these make them up.
 use Prim.Native.Nat.{ℕ, _+_, _-_, _%_, _≤_, _<_}
 use mathlib.Core.Bool.{Bool}
 use mathlib.Core.List.{List}
 use lib.Dec.{leb, eqb}
 use Rattle.laws.specs.Search.{all}
 use Rattle.laws.specs.Lists.{nth}
-use Rattle.view.specs.Limits.{maxInstances, maxEntryEnd}
+use Rattle.view.specs.Parts.{maxInstances, maxEntryEnd}
 use Rattle.view.specs.Rules.{hole}
 
 -- k origins within the limit

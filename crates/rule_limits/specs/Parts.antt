@@ -1,10 +1,11 @@
--- What the functions of this crate test together. A reader need not believe these: the contracts of the calls cite the rows of view/specs/Limits.antt, and the proofs show that these make them up.
+-- Need not be believed. What the functions of this crate test together: the contracts of the calls cite the rows of view/specs/Limits.antt, and the proofs show that these make them up.
 use Prim.Native.Nat.{ℕ, _+_}
 use mathlib.Core.Bool.{Bool}
 use lib.Dec.{leb, eqb}
 use lib.IntN.{ℤ}
 use Rattle.laws.specs.Checks.{also}
-use Rattle.view.specs.Limits.{maxEntryEnd, widthAllowed, etypeEntriesAllowed, filetypeEntriesAllowed, entryDisplacementAllowed}
+use Rattle.view.specs.Parts.{maxEntryEnd}
+use Rattle.view.specs.Limits.{widthAllowed, etypeEntriesAllowed, filetypeEntriesAllowed, entryDisplacementAllowed}
 
 -- an entry of width w at d
 unfoldable pub entryFits : ℕ → ℕ → Bool
@@ -15,5 +16,5 @@ unfoldable pub signedEntryFits : ℕ → ℤ → Bool
 signedEntryFits w d = also (widthAllowed w) (entryDisplacementAllowed w d)
 
 -- each type's two lists have one length, and these counts are allowed
-unfoldable pub countsAllowed : ℕ → ℕ → ℕ → ℕ → Bool
-countsAllowed ew ed fw fd = also (eqb ew ed) (also (eqb fw fd) (also (etypeEntriesAllowed ew) (filetypeEntriesAllowed ew fw)))
+unfoldable pub lengthsAllowed : ℕ → ℕ → ℕ → ℕ → Bool
+lengthsAllowed ew ed fw fd = also (eqb ew ed) (also (eqb fw fd) (also (etypeEntriesAllowed ew) (filetypeEntriesAllowed ew fw)))

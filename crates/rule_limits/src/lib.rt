@@ -1,7 +1,7 @@
 // Document 01's limits of a view, tested on single numbers: no list is read. These functions are pub for our own crates.
 ghost use mathlib.Core.Path.{_≡_};
 ghost use Rattle.view.specs.Limits.{widthAllowed, extentAllowed, displacementAllowed};
-ghost use Rattle.rule_limits.specs.Parts.{entryFits, signedEntryFits, countsAllowed};
+ghost use Rattle.rule_limits.specs.Parts.{entryFits, signedEntryFits, lengthsAllowed};
 use view::View;
 
 // Width: 1, 2, 4 or 8.
@@ -45,7 +45,7 @@ pub fn entry_allowed(w: u64, d: i64) -> bool
 
 // Whether each type's two lists have one length, and both entry counts are allowed.
 pub fn counts_allowed(ew: usize, ed: usize, fw: usize, fd: usize) -> bool
-    ensures { λ r. ⌜ r ≡ countsAllowed ew ed fw fd ⌝ }
+    ensures { λ r. ⌜ r ≡ lengthsAllowed ew ed fw fd ⌝ }
 {
     if ew != ed {
         return false;

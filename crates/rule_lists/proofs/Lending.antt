@@ -3,9 +3,8 @@ use Rattle.laws.proofs.Prelude.{ℕ, _^_, _≤_, _<_, _≡_, sym, ap, _∙_, Bo
 use Rattle.view.specs.Limits.{extentAllowed, displacementAllowed}
 use Rattle.view.specs.Types.{entries, widthAt}
 use Rattle.view.specs.Rules.{nativeName, isNative, entryAllowed, entriesAllowed}
-use Rattle.rule_limits.specs.Parts.{countsAllowed, signedEntryFits}
-use Rattle.rule_lists.specs.Lists.{typeOfLists}
-use Rattle.rule_lists.specs.Parts.{nativeAt, signedEntryFitsAt}
+use Rattle.rule_limits.specs.Parts.{lengthsAllowed, signedEntryFits}
+use Rattle.rule_lists.specs.Parts.{typeOfLists, nativeAt, signedEntryFitsAt}
 
 -- ---- the representation
 
@@ -82,11 +81,11 @@ module _ (ws : List ℕ) (ds : List ℤ) (x : ℤ) (t : Bool) (e : t ≡ all (si
   pub entries-no : not t ≡ true → entriesAllowed (typeOfLists ws ds x) ≡ false
   entries-no n = unflag-false t _ lent n
 
-module _ (a b c d : ℕ) (t : Bool) (e : t ≡ countsAllowed a b c d) (n : not t ≡ false) where
+module _ (a b c d : ℕ) (t : Bool) (e : t ≡ lengthsAllowed a b c d) (n : not t ≡ false) where
   pub etype-pairs : b ≡ a
-  unfolding countsAllowed
+  unfolding lengthsAllowed
   etype-pairs = sym (eqb-true a b (also-inv _ _ (unflag-true t _ e n) .0))
 
   pub filetype-pairs : d ≡ c
-  unfolding countsAllowed
+  unfolding lengthsAllowed
   filetype-pairs = sym (eqb-true c d (also-inv _ _ (also-inv _ _ (unflag-true t _ e n) .1) .0))

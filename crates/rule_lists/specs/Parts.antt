@@ -1,4 +1,4 @@
--- What the functions of this crate test, part by part. A reader need not believe these: `limitsRefusal` is shown to be the beginning of `setRefusal`.
+-- Need not be believed. What the functions of this crate test, part by part: `limitsRefusal` is shown to be the beginning of `setRefusal`.
 use Prim.Native.Nat.{ℕ}
 use mathlib.Core.Bool.{Bool}
 use mathlib.Core.List.{List}
@@ -8,9 +8,13 @@ use lib.ListN.{length, getD}
 use Rattle.laws.specs.Checks.{also, check}
 use Rattle.laws.specs.Lists.{nth}
 use Rattle.view.specs.Limits.{extentAllowed, displacementAllowed}
-use Rattle.view.specs.Types.{PaperView}
+use Rattle.view.specs.Types.{PaperType, PaperView}
 use Rattle.view.specs.Rules.{nativeName, isNative, entriesAllowed}
-use Rattle.rule_limits.specs.Parts.{countsAllowed, signedEntryFits}
+use Rattle.rule_limits.specs.Parts.{lengthsAllowed, signedEntryFits}
+
+-- the type that lent lists and an extent are
+abbrev pub typeOfLists : List ℕ → List ℤ → ℤ → PaperType
+typeOfLists ws ds x = record { widths = ws; displacements = ds; extent = x }
 
 -- byte i of a representation is that of `native`
 unfoldable pub nativeAt : List ℕ → ℕ → Bool
@@ -25,7 +29,7 @@ unfoldable pub limitsRefusal : List ℕ → PaperView → ℕ → ℕ
 limitsRefusal representation v later =
     check (isNative representation) 2
     (check (displacementAllowed (v .displacement)) 3
-    (check (countsAllowed (length (v .etype .widths)) (length (v .etype .displacements)) (length (v .filetype .widths)) (length (v .filetype .displacements))) 4
+    (check (lengthsAllowed (length (v .etype .widths)) (length (v .etype .displacements)) (length (v .filetype .widths)) (length (v .filetype .displacements))) 4
     (check (also (extentAllowed (v .etype .extent)) (extentAllowed (v .filetype .extent))) 5
     (check (also (entriesAllowed (v .etype)) (entriesAllowed (v .filetype))) 6
     later))))

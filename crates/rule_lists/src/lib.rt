@@ -5,7 +5,7 @@ ghost use Rattle.laws.specs.Checks.{also};
 ghost use Rattle.laws.specs.Search.{all};
 ghost use Rattle.view.specs.Limits.{extentAllowed};
 ghost use Rattle.view.specs.Rules.{isNative};
-ghost use Rattle.rule_lists.specs.Lists.{typeOfLists, viewOfTypes};
+ghost use Rattle.view.specs.Types.{viewOfLists};
 ghost use Rattle.rule_lists.specs.Parts.{signedEntryFitsAt, limitsRefusal};
 use view::View;
 
@@ -67,7 +67,7 @@ pub fn limits_refusal(
     fd: &[i64],
     fx: i64,
 ) -> u64
-    ensures { λ r. ⌜ r ≡ limitsRefusal (now (representation .entry)) (viewOfTypes displacement (typeOfLists (now (ew .entry)) (now (ed .entry)) ex) (typeOfLists (now (fw .entry)) (now (fd .entry)) fx)) 0 ⌝ }
+    ensures { λ r. ⌜ r ≡ limitsRefusal (now (representation .entry)) (viewOfLists displacement (now (ew .entry)) (now (ed .entry)) ex (now (fw .entry)) (now (fd .entry)) fx) 0 ⌝ }
 {
     let native = is_native(representation);
     let placed = rule_limits::displacement_allowed(displacement);

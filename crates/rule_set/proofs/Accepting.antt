@@ -2,7 +2,9 @@
 use Rattle.laws.proofs.Prelude.{ℕ, _+_, _-_, _*_, _/_, _%_, _≤_, _<_, _≡_, refl, sym, ap, _∙_, Bool, true, false, not, List, ⊎-elim, arith, mod-lt, div-mul-le-self, mul-le-mul-right, div-add-mod', eq-zero-or-pos, zero-mul, div-lt-iff-lt-mul, length, take, replicate, length-replicate, ℤ, eqb, getD-take, length-take-le, eqb-true, eq-eqb, leb-true, also, either, check, nth, front, also-inv, within-inv, all-same, times-more, length-store, store-same}
 use Rattle.view.specs.Limits.{etypeEntriesAllowed, filetypeEntriesAllowed}
 use Rattle.view.specs.Types.{PaperView, entries, widthAt, displacementAt, extentOf, whole}
-use Rattle.view.specs.Rules.{paired, ordered, typeOrdered, instances, origin, entryBuilt, built, holesFit, viewHolesFit, apart, accepted, recordOf}
+use Rattle.view.specs.Rules.{paired, typeOrdered, instances, origin, viewHolesFit, apart}
+use Rattle.view.specs.Parts.{ordered, holesFit, entryBuilt, built, recordOf}
+use Rattle.view.specs.Acceptance.{accepted}
 use Rattle.view.specs.Modes.{allowsWriting}
 use Rattle.view.proofs.Accepted.{rules-accept, type-entry, extent-small}
 use Rattle.view.proofs.Holding.{held-at, record-same}
@@ -165,8 +167,8 @@ module _ (v : PaperView) (lim : Limited v) where
     origin-hold g l = held-at (origin v) (instances v) 64 few-instances g l
 
     view-holes-same : holesFit (nth (recordOf v .origins)) (instances v) (extentOf (v .etype)) (extentOf (v .filetype)) ≡ viewHolesFit v
-    unfolding viewHolesFit
-    view-holes-same = holes-same _ _ (instances v) (extentOf (v .etype)) (extentOf (v .filetype)) more origin-hold
+    unfolding viewHolesFit holesFit
+    view-holes-same = holes-same (nth (recordOf v .origins)) (origin v) (instances v) (extentOf (v .etype)) (extentOf (v .filetype)) more origin-hold
 
     -- a view that passed checks 2 to 9 is accepted for reading, so that its record stands for it
     module _ (o : typeOrdered (v .etype) ≡ true) (fo : typeOrdered (v .filetype) ≡ true) (h : viewHolesFit v ≡ true) where

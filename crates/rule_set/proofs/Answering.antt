@@ -1,15 +1,15 @@
 -- The answers of `accept`, from what its calls ensure.
 use Rattle.laws.proofs.Prelude.{ℕ, _/_, zero, suc, _≤_, _<_, _≡_, refl, sym, ap, _∙_, subst, List, ⊎-elim, arith, length, take, replicate, getD-replicate, length-replicate, ℤ, length-take-le, w64, SFits, toZ, ofZ, toZ-ofZ, granted, nth, front, granted-yes, granted-no, eq-or-ne, length-store}
 use Rattle.view.specs.declared.View.{View}
-use Rattle.view.specs.Types.{PaperView, paper, entries, widthAt, extentOf, whole, defaultView}
-use Rattle.view.specs.Rules.{setRefusal, recordOf, instances, origin}
+use Rattle.view.specs.Types.{PaperView, paper, entries, widthAt, extentOf, whole, viewOfLists}
+use Rattle.view.specs.Parts.{defaultView, recordOf}
+use Rattle.view.specs.Acceptance.{setRefusal}
+use Rattle.view.specs.Rules.{instances, origin}
 use Rattle.view.proofs.Holding.{held-past, record-same}
 use Rattle.rule_set.specs.declared.Accepted.{Accepted}
-use Rattle.rule_lists.specs.Lists.{typeOfLists, viewOfTypes}
 use Rattle.rule_lists.specs.Parts.{limitsRefusal}
-use Rattle.rule_set.specs.Answers.{acceptAnswer, UnusedZero, AcceptedAs}
+use Rattle.rule_set.specs.Parts.{acceptAnswer, UnusedZero, AcceptedAs, Limited, shapesRefusal, ShapesReady, RecordAccepted, ListsAccepted}
 use Rattle.rule_groups.specs.Parts.{wholeAt, Recordable, viewRecord}
-use Rattle.rule_set.specs.Parts.{Limited, shapesRefusal, ShapesReady, RecordAccepted, ListsAccepted}
 use Rattle.rule_set.proofs.Chain.{limited, limits-refused, limits-granted, set-accepted}
 use Rattle.rule_set.proofs.Accepting.{naturalsOf, record-hold, recordable, shapes-same, ready, etype-some, pairs-few}
 
@@ -78,7 +78,7 @@ module _ (mode : ℕ) (w x : View) (fw fd : List ℕ) (e : x ≡ w) where
 
 -- ---- `accept_lists`: the filetype's displacements as natural numbers, and the three signed numbers as the machine reads them
 
-module _ (d : ℤ) (ew : List ℕ) (ed : List ℤ) (ex : ℤ) (fw : List ℕ) (fd : List ℤ) (fx : ℤ) (lim : Limited (viewOfTypes d (typeOfLists ew ed ex) (typeOfLists fw fd fx))) where
+module _ (d : ℤ) (ew : List ℕ) (ed : List ℤ) (ex : ℤ) (fw : List ℕ) (fd : List ℤ) (fx : ℤ) (lim : Limited (viewOfLists d ew ed ex fw fd fx)) where
   pub naturals-ask : length fd ≤ 256
   naturals-ask = pairs-few _ lim
 
@@ -101,7 +101,7 @@ module _ (d : ℤ) (ew : List ℕ) (ed : List ℤ) (ex : ℤ) (fw : List ℕ) (f
     record-asks = rw naturals-are (recordable _ lim)
 
     module _ (sd : SFits w64 d) (se : SFits w64 ex) (sf : SFits w64 fx) (s x y : ℕ) (es : s ≡ whole (toZ w64 (ofZ w64 d))) (xe : x ≡ whole (toZ w64 (ofZ w64 ex))) (ye : y ≡ whole (toZ w64 (ofZ w64 fx))) where
-      record-is : viewRecord (record { displacement = s; etype = record { entries = length ew; extent = x }; filetype = record { instances = length fd / length ew; extent = y } }) ew ed (take (length fd) ns) ≡ recordOf (viewOfTypes d (typeOfLists ew ed ex) (typeOfLists fw fd fx))
+      record-is : viewRecord (record { displacement = s; etype = record { entries = length ew; extent = x }; filetype = record { instances = length fd / length ew; extent = y } }) ew ed (take (length fd) ns) ≡ recordOf (viewOfLists d ew ed ex fw fd fx)
       unfolding extentOf
       record-is =
           let p = es ∙ ap whole (toZ-ofZ sd) in
@@ -112,7 +112,7 @@ module _ (d : ℤ) (ew : List ℕ) (ed : List ℤ) (ex : ℤ) (fw : List ℕ) (f
       pub shapes-ask : ShapesReady (viewRecord (record { displacement = s; etype = record { entries = length ew; extent = x }; filetype = record { instances = length fd / length ew; extent = y } }) ew ed (take (length fd) ns)) fw (take (length fd) ns)
       shapes-ask = rw (record-is, naturals-are) (ready _ lim)
 
-      pub shaped-as : (mode : ℕ) (a : Accepted) → RecordAccepted mode (viewRecord (record { displacement = s; etype = record { entries = length ew; extent = x }; filetype = record { instances = length fd / length ew; extent = y } }) ew ed (take (length fd) ns)) fw (take (length fd) ns) a → ListsAccepted mode (viewOfTypes d (typeOfLists ew ed ex) (typeOfLists fw fd fx)) a
+      pub shaped-as : (mode : ℕ) (a : Accepted) → RecordAccepted mode (viewRecord (record { displacement = s; etype = record { entries = length ew; extent = x }; filetype = record { instances = length fd / length ew; extent = y } }) ew ed (take (length fd) ns)) fw (take (length fd) ns) a → ListsAccepted mode (viewOfLists d ew ed ex fw fd fx) a
       shaped-as mode a j = record {
         refusal = j .refusal ∙ (λ i. shapesRefusal mode (record-is i) fw (naturals-are i)) ∙ shapes-same _ lim mode;
         view = j .view ∙ ap (λ (w : View). granted (a .refusal) w defaultView) record-is;
@@ -121,22 +121,22 @@ module _ (d : ℤ) (ew : List ℕ) (ed : List ℤ) (ex : ℤ) (fw : List ℕ) (f
 -- ---- `accept`: checks 2 to 6, then 7 to 10
 
 module _ (mode : ℕ) (r : List ℕ) (d : ℤ) (ew : List ℕ) (ed : List ℤ) (ex : ℤ) (fw : List ℕ) (fd : List ℤ) (fx : ℤ) (sd : SFits w64 d) (se : SFits w64 ex) (sf : SFits w64 fx) where
-  read : viewOfTypes (toZ w64 (ofZ w64 d)) (typeOfLists ew ed (toZ w64 (ofZ w64 ex))) (typeOfLists fw fd (toZ w64 (ofZ w64 fx))) ≡ viewOfTypes d (typeOfLists ew ed ex) (typeOfLists fw fd fx)
-  read = let p = toZ-ofZ sd in let q = toZ-ofZ se in let s = toZ-ofZ sf in λ i. viewOfTypes (p i) (typeOfLists ew ed (q i)) (typeOfLists fw fd (s i))
+  read : viewOfLists (toZ w64 (ofZ w64 d)) ew ed (toZ w64 (ofZ w64 ex)) fw fd (toZ w64 (ofZ w64 fx)) ≡ viewOfLists d ew ed ex fw fd fx
+  read = let p = toZ-ofZ sd in let q = toZ-ofZ se in let s = toZ-ofZ sf in λ i. viewOfLists (p i) ew ed (q i) fw fd (s i)
 
-  module _ (k : ℕ) (ek : k ≡ limitsRefusal r (viewOfTypes (toZ w64 (ofZ w64 d)) (typeOfLists ew ed (toZ w64 (ofZ w64 ex))) (typeOfLists fw fd (toZ w64 (ofZ w64 fx)))) 0) where
-    limits : k ≡ limitsRefusal r (viewOfTypes d (typeOfLists ew ed ex) (typeOfLists fw fd fx)) 0
+  module _ (k : ℕ) (ek : k ≡ limitsRefusal r (viewOfLists (toZ w64 (ofZ w64 d)) ew ed (toZ w64 (ofZ w64 ex)) fw fd (toZ w64 (ofZ w64 fx))) 0) where
+    limits : k ≡ limitsRefusal r (viewOfLists d ew ed ex fw fd fx) 0
     limits = ek ∙ ap (λ (v : PaperView). limitsRefusal r v 0) read
 
-    pub refused-limits : (a : Accepted) → (k ≡ 0 → ⊥) → (a .refusal ≡ k) × (a .view ≡ defaultView) → AcceptedAs mode r (viewOfTypes d (typeOfLists ew ed ex) (typeOfLists fw fd fx)) a
+    pub refused-limits : (a : Accepted) → (k ≡ 0 → ⊥) → (a .refusal ≡ k) × (a .view ≡ defaultView) → AcceptedAs mode r (viewOfLists d ew ed ex fw fd fx) a
     refused-limits a h e = refused-as mode r _ k a (limits-refused mode r _ k limits h) h (e .0) (e .1)
 
     module _ (z : k ≡ 0) where
-      pub limits-leave : Limited (viewOfTypes (toZ w64 (ofZ w64 d)) (typeOfLists ew ed (toZ w64 (ofZ w64 ex))) (typeOfLists fw fd (toZ w64 (ofZ w64 fx))))
+      pub limits-leave : Limited (viewOfLists (toZ w64 (ofZ w64 d)) ew ed (toZ w64 (ofZ w64 ex)) fw fd (toZ w64 (ofZ w64 fx)))
       limits-leave = limited r _ k ek z
 
-      pub accepted-shaped : (a : Accepted) → ListsAccepted mode (viewOfTypes (toZ w64 (ofZ w64 d)) (typeOfLists ew ed (toZ w64 (ofZ w64 ex))) (typeOfLists fw fd (toZ w64 (ofZ w64 fx)))) a → AcceptedAs mode r (viewOfTypes d (typeOfLists ew ed ex) (typeOfLists fw fd fx)) a
+      pub accepted-shaped : (a : Accepted) → ListsAccepted mode (viewOfLists (toZ w64 (ofZ w64 d)) ew ed (toZ w64 (ofZ w64 ex)) fw fd (toZ w64 (ofZ w64 fx))) a → AcceptedAs mode r (viewOfLists d ew ed ex fw fd fx) a
       accepted-shaped a s = shaped-accepted mode r _ a (limits-granted mode r _ k (a .refusal) limits z (t .refusal)) (t .view)
         where
-          t : ListsAccepted mode (viewOfTypes d (typeOfLists ew ed ex) (typeOfLists fw fd fx)) a
+          t : ListsAccepted mode (viewOfLists d ew ed ex fw fd fx) a
           t = subst (λ (v : PaperView). ListsAccepted mode v a) read s

@@ -1,8 +1,9 @@
 -- The paper's chain of refusals is checks 2 to 6 and then 7 to 10, and what passing the first part leaves.
 use Rattle.laws.proofs.Prelude.{ℕ, _≡_, refl, sym, _∙_, true, List, lit<, eqb-true, eq-eqb, check-inv, also-inv, Passes, ends-here, check-passes}
 use Rattle.view.specs.Types.{PaperView, entries}
-use Rattle.view.specs.Rules.{paired, viewRefusal, setRefusal, accepted}
-use Rattle.rule_limits.specs.Parts.{countsAllowed}
+use Rattle.view.specs.Rules.{paired}
+use Rattle.view.specs.Acceptance.{viewRefusal, setRefusal, accepted}
+use Rattle.rule_limits.specs.Parts.{lengthsAllowed}
 use Rattle.rule_lists.specs.Parts.{limitsRefusal}
 use Rattle.rule_set.specs.Parts.{rulesRefusal, Limited}
 
@@ -13,7 +14,7 @@ limits-pass r v =
 
 -- the paper's chain is checks 2 to 6, then 7 to 10
 chain-is : (mode : ℕ) (r : List ℕ) (v : PaperView) → setRefusal mode r v ≡ limitsRefusal r v (rulesRefusal mode v)
-unfolding setRefusal viewRefusal limitsRefusal rulesRefusal countsAllowed paired entries
+unfolding setRefusal viewRefusal limitsRefusal rulesRefusal lengthsAllowed paired entries
 chain-is mode r v = refl
 
 pub limits-refused : (mode : ℕ) (r : List ℕ) (v : PaperView) (k : ℕ) → k ≡ limitsRefusal r v 0 → (k ≡ 0 → ⊥) → k ≡ setRefusal mode r v
@@ -30,7 +31,7 @@ set-accepted mode r v e = eq-eqb _ 0 (check-inv _ _ _ (lit< tt) e .1)
 -- ---- what checks 2 to 6 leave
 
 pub limited : (r : List ℕ) (v : PaperView) (k : ℕ) → k ≡ limitsRefusal r v 0 → k ≡ 0 → Limited v
-unfolding limitsRefusal countsAllowed
+unfolding limitsRefusal lengthsAllowed
 limited r v k e z =
     let c2 = check-inv _ _ _ (lit< tt) (sym e ∙ z) in
     let c3 = check-inv _ _ _ (lit< tt) (c2 .1) in

@@ -1,8 +1,7 @@
 -- Checks 7 to 10 as a chain, on the records.
 use Rattle.laws.proofs.Prelude.{ℕ, _*_, _/_, _%_, _≤_, _<_, _≡_, sym, ap, _∙_, Bool, true, false, not, List, ⊎-elim, arith, div-add-mod', eq-zero-or-pos, zero-mul, length, take, eqb-true, either, nth, also-inv, either-left, either-right, either-no, unflag-true, unflag-false}
 use Rattle.view.specs.declared.Numbers.{Numbers}
-use Rattle.view.specs.Numbers.{viewWith}
-use Rattle.view.specs.Rules.{ordered}
+use Rattle.view.specs.Parts.{viewWith, ordered}
 use Rattle.rule_view.proofs.Chains.{ordered-prefix, upto}
 use Rattle.rule_groups.specs.Parts.{groupsMatch}
 use Rattle.rule_set.specs.Parts.{TilesReady, ShapesReady}

@@ -1,21 +1,42 @@
--- What the functions of this crate test, part by part. A reader need not believe these: the contract of `accept` is `AcceptedAs`, and the proofs show that the parts make it up.
-use Prim.Native.Nat.{ℕ, _/_, _≤_, _<_}
+-- Need not be believed. What acceptance answers, and what the functions of this crate test, part by part: the contract of `accept` is `AcceptedAs`, which the parts make up, and the claim `ViewSet` has the property of a set.
+use Prim.Native.Nat.{ℕ, _≤_, _<_, _/_}
 use mathlib.Core.Bool.{true, not}
 use mathlib.Core.List.{List}
 use mathlib.Core.Path.{_≡_}
 use lib.ListN.{length}
-use Rattle.laws.specs.Checks.{also, either, check, granted}
+use Rattle.laws.specs.Checks.{granted, also, either, check}
 use Rattle.laws.specs.Lists.{nth}
-use Rattle.view.specs.declared.View.{View}
-use Rattle.view.specs.declared.Numbers.{Numbers}
-use Rattle.view.specs.Limits.{maxInstances, maxEntryEnd, maxExtent, etypeEntriesAllowed, filetypeEntriesAllowed, extentAllowed, displacementAllowed}
-use Rattle.view.specs.Types.{PaperView, defaultView}
-use Rattle.view.specs.Rules.{entriesAllowed, ordered, typeOrdered, built, holesFit, viewHolesFit, apart, recordOf}
+use Rattle.view.specs.Parts.{EntriesValid, recordOf, built, defaultView, maxEtypeEntries, maxInstances, maxEntryEnd, maxExtent, ordered, holesFit}
+use Rattle.view.specs.Limits.{etypeEntriesAllowed, filetypeEntriesAllowed, extentAllowed, displacementAllowed}
 use Rattle.view.specs.Modes.{allowsWriting}
-use Rattle.view.specs.Etypes.{EntriesValid}
-use Rattle.rule_view.specs.Parts.{shapeApart, ShapeValid}
+use Rattle.view.specs.Acceptance.{setRefusal}
+use Rattle.view.specs.Rules.{entriesAllowed, typeOrdered, viewHolesFit, apart}
+use Rattle.view.specs.Types.{PaperView, paper}
+use Rattle.view.specs.declared.Numbers.{Numbers}
+use Rattle.view.specs.declared.View.{View}
 use Rattle.rule_groups.specs.Parts.{groupsMatch}
 use Rattle.rule_set.specs.declared.Accepted.{Accepted}
+use Rattle.rule_view.specs.Parts.{shapeApart, ShapeValid}
+
+-- the refusal number and the view; the default view if refused
+unfoldable pub acceptAnswer : ℕ → List ℕ → PaperView → Accepted
+acceptAnswer mode representation v =
+    let n = setRefusal mode representation v in
+    record { refusal = n; view = granted n (recordOf v) defaultView }
+
+-- the unused places of a view's record are 0
+pub record UnusedZero (v : View) : Type 0 where
+  pub widths : (i : ℕ) → v .numbers .etype .entries ≤ i → i < maxEtypeEntries → nth (v .widths) i ≡ 0
+  pub displacements : (i : ℕ) → v .numbers .etype .entries ≤ i → i < maxEtypeEntries → nth (v .displacements) i ≡ 0
+  pub origins : (i : ℕ) → v .numbers .filetype .instances ≤ i → i < maxInstances → nth (v .origins) i ≡ 0
+
+-- the whole answer; where it is granted, the record stands for the lent view, entry for entry, with both extents and the displacement
+pub record AcceptedAs (mode : ℕ) (representation : List ℕ) (v : PaperView) (r : Accepted) : Type 0 where
+  pub answer : r ≡ acceptAnswer mode representation v
+  pub same : r .refusal ≡ 0 → paper (r .view) ≡ v
+  pub unused : UnusedZero (r .view)
+
+-- ---- the parts
 
 -- checks 7 to 10
 unfoldable pub rulesRefusal : ℕ → PaperView → ℕ

@@ -1,11 +1,9 @@
 // From lent lists to an accepted view, or to the refusal number that document 01 gives them: checks 2 to 10 in its order.
 ghost use mathlib.Core.Path.{_≡_};
-ghost use Rattle.view.specs.Types.{defaultView};
-ghost use Rattle.view.specs.Numbers.{viewWith};
+ghost use Rattle.view.specs.Parts.{defaultView, viewWith};
 ghost use Rattle.rule_groups.specs.Parts.{Recordable, viewRecord};
-ghost use Rattle.rule_lists.specs.Lists.{typeOfLists, viewOfTypes};
-ghost use Rattle.rule_set.specs.Answers.{AcceptedAs};
-ghost use Rattle.rule_set.specs.Parts.{Limited, tilesRefusal, TilesReady, shapesRefusal, ShapesReady, RecordAccepted, ListsAccepted};
+ghost use Rattle.view.specs.Types.{viewOfLists};
+ghost use Rattle.rule_set.specs.Parts.{AcceptedAs, Limited, tilesRefusal, TilesReady, shapesRefusal, ShapesReady, RecordAccepted, ListsAccepted};
 use view::Etype;
 use view::Filetype;
 use view::Numbers;
@@ -115,8 +113,8 @@ fn accept_lists(
     fd: &[i64],
     fx: i64,
 ) -> Accepted
-    requires { ⌜ Limited (viewOfTypes displacement (typeOfLists (now ew) (now ed) ex) (typeOfLists (now fw) (now fd) fx)) ⌝ }
-    ensures { λ r. ⌜ ListsAccepted mode (viewOfTypes displacement (typeOfLists (now (ew .entry)) (now (ed .entry)) ex) (typeOfLists (now (fw .entry)) (now (fd .entry)) fx)) r ⌝ }
+    requires { ⌜ Limited (viewOfLists displacement (now ew) (now ed) ex (now fw) (now fd) fx) ⌝ }
+    ensures { λ r. ⌜ ListsAccepted mode (viewOfLists displacement (now (ew .entry)) (now (ed .entry)) ex (now (fw .entry)) (now (fd .entry)) fx) r ⌝ }
 {
     let mut naturals = [0u64; View::MAX_FILETYPE_ENTRIES as usize];
     rule_groups::copy_displacements(fd, &mut naturals);
@@ -150,7 +148,7 @@ pub fn accept(
     fd: &[i64],
     fx: i64,
 ) -> Accepted
-    ensures { λ r. ⌜ AcceptedAs mode (now (representation .entry)) (viewOfTypes displacement (typeOfLists (now (ew .entry)) (now (ed .entry)) ex) (typeOfLists (now (fw .entry)) (now (fd .entry)) fx)) r ⌝ }
+    ensures { λ r. ⌜ AcceptedAs mode (now (representation .entry)) (viewOfLists displacement (now (ew .entry)) (now (ed .entry)) ex (now (fw .entry)) (now (fd .entry)) fx) r ⌝ }
 {
     let limits = rule_lists::limits_refusal(representation, displacement, ew, ed, ex, fw, fd, fx);
     if limits != 0 {

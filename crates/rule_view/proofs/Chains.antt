@@ -1,9 +1,8 @@
 -- The tests of this crate: the etype, the filetype and overlap.
 use Rattle.laws.proofs.Prelude.{ℕ, _+_, _-_, _*_, _≤_, _<_, _≡_, sym, ap, _∙_, Bool, true, false, not, List, arith, mul-le-mul, length, getD, take, getD-take, length-take-le, w64, Fits, leb-true, all, nth, also-inv, within-inv, unflag-true, unflag-false, all-at, all-same, greatest-least}
 use Rattle.view.specs.declared.Numbers.{Numbers}
-use Rattle.view.specs.Rules.{ordered}
+use Rattle.view.specs.Parts.{ordered, entryEnd, EntriesValid, reachOf}
 use Rattle.rule_limits.specs.Parts.{entryFits}
-use Rattle.view.specs.Etypes.{entryEnd, EntriesValid, reachOf}
 use Rattle.rule_entries.specs.Parts.{entryFitsAt}
 use Rattle.rule_instances.specs.Parts.{OriginsValid, reachAt}
 use Rattle.rule_view.specs.Parts.{etypeAccepted, filetypeAccepted, ShapeValid}

@@ -3,11 +3,11 @@ use Rattle.laws.proofs.Prelude.{ℕ, _+_, _-_, _*_, _/_, _%_, _≤_, _<_, _≡_
 use Rattle.view.specs.declared.View.{View}
 use Rattle.view.specs.Limits.{widthAllowed, entryDisplacementAllowed}
 use Rattle.view.specs.Types.{paper, entries, widthAt, displacementAt}
-use Rattle.view.specs.Rules.{entryAllowed, entriesAllowed, ordered, typeOrdered, instances, origin, entryBuilt, built, holesFit, viewHolesFit, nextBegins, entryApart, apart}
+use Rattle.view.specs.Rules.{entryAllowed, entriesAllowed, typeOrdered, instances, origin, viewHolesFit, nextBegins, entryApart, apart}
+use Rattle.view.specs.Parts.{ordered, holesFit, entryBuilt, built, entryEnd, reachOf}
 use Rattle.view.proofs.Paper.{paper-entries, paper-file-entries, paper-width, paper-displacement, paper-file-width, paper-file-displacement-read, paper-file-displacement, paper-extent, paper-file-extent, paper-instances, paper-origin}
 use Rattle.view.proofs.Accepted.{type-entry, width-small}
 use Rattle.rule_limits.specs.Parts.{entryFits}
-use Rattle.view.specs.Etypes.{entryEnd, reachOf}
 use Rattle.rule_entries.specs.Parts.{entryFitsAt, apartAt}
 use Rattle.rule_instances.specs.Parts.{reachAt, stepAt, originsStep}
 use Rattle.rule_view.specs.Parts.{shapeApart}
@@ -17,8 +17,8 @@ use Rattle.rule_view.proofs.Pieces.{holes-same, Linked, inside, across,
 
 module _ (v : View) (some : 0 < v .numbers .etype .entries) (more : 0 < v .numbers .filetype .instances) where
   pub view-holes-same : viewHolesFit (paper v) ≡ holesFit (nth (v .origins)) (v .numbers .filetype .instances) (v .numbers .etype .extent) (v .numbers .filetype .extent)
-  unfolding viewHolesFit
-  view-holes-same = rw (paper-instances v some, paper-extent v, paper-file-extent v) (holes-same _ _ (v .numbers .filetype .instances) (v .numbers .etype .extent) (v .numbers .filetype .extent) more (paper-origin v some))
+  unfolding viewHolesFit holesFit
+  view-holes-same = rw (paper-instances v some, paper-extent v, paper-file-extent v) (holes-same (origin (paper v)) (nth (v .origins)) (v .numbers .filetype .instances) (v .numbers .etype .extent) (v .numbers .filetype .extent) more (paper-origin v some))
 
   -- the filetype is built of the etype, by the record's very form
   entry-built : (i : ℕ) → i < v .numbers .filetype .instances * v .numbers .etype .entries → entryBuilt (paper v) i ≡ true

@@ -3,7 +3,8 @@ use Rattle.laws.proofs.Prelude.{ℕ, zero, suc, _+_, _-_, _*_, _/_, _%_, _≤_,
 use Rattle.view.specs.declared.View.{View}
 use Rattle.view.specs.Limits.{etypeEntriesAllowed, entryDisplacementAllowed, extentAllowed, displacementAllowed}
 use Rattle.view.specs.Types.{paper, entries}
-use Rattle.view.specs.Rules.{paired, entryAllowed, entriesAllowed, ordered, typeOrdered, instances, hole, holesFit}
+use Rattle.view.specs.Rules.{paired, entryAllowed, entriesAllowed, typeOrdered, instances, hole}
+use Rattle.view.specs.Parts.{ordered, holesFit}
 use Rattle.view.proofs.Paper.{paper-entries, paper-width, paper-displacement-read, paper-displacement}
 use Rattle.rule_limits.specs.Parts.{entryFits}
 use Rattle.rule_entries.specs.Parts.{entryFitsAt}

@@ -3,7 +3,8 @@ use Rattle.laws.proofs.Prelude.{ℕ, _*_, _≤_, _<_, _≡_, sym, ap, _∙_, Bo
 use Rattle.view.specs.declared.View.{View}
 use Rattle.view.specs.Limits.{filetypeEntriesAllowed}
 use Rattle.view.specs.Types.{paper, entries}
-use Rattle.view.specs.Rules.{instances, accepted}
+use Rattle.view.specs.Rules.{instances}
+use Rattle.view.specs.Acceptance.{accepted}
 use Rattle.view.specs.Modes.{allowsWriting}
 use Rattle.view.proofs.Paper.{paper-entries, paper-file-entries}
 use Rattle.view.proofs.Accepted.{rules, rules-accept}

@@ -1,4 +1,4 @@
--- What the functions of this crate test on a view's numbers v, the etype's widths ws and displacements ds and the filetype's origins ps, part by part. A reader need not believe these: the contract of `is_accepted` is `accepted`, and the proofs show that the parts make it up.
+-- Need not be believed. What the functions of this crate test on a view's numbers v, the etype's widths ws and displacements ds and the filetype's origins ps, part by part: the contract of `is_accepted` is `accepted`, and the proofs show that the parts make it up.
 use Prim.Native.Nat.{ℕ, _+_, _-_, _*_, _≤_}
 use mathlib.Core.Bool.{Bool, not}
 use mathlib.Core.List.{List}
@@ -9,10 +9,8 @@ use Rattle.laws.specs.Lists.{nth}
 use Rattle.view.specs.declared.Etype.{Etype}
 use Rattle.view.specs.declared.Numbers.{Numbers}
 use Rattle.view.specs.declared.View.{View}
-use Rattle.view.specs.Limits.{maxEtypeEntries, maxFiletypeEntries, maxInstances, maxExtent, maxDisplacement}
-use Rattle.view.specs.Rules.{ordered, holesFit}
+use Rattle.view.specs.Parts.{maxEtypeEntries, maxFiletypeEntries, maxInstances, maxExtent, maxDisplacement, ordered, holesFit, EntriesValid, entryEnd, reachOf}
 use Rattle.view.specs.Modes.{allowsWriting}
-use Rattle.view.specs.Etypes.{EntriesValid, entryEnd, reachOf}
 use Rattle.rule_entries.specs.Parts.{apartAt, entryFitsAt}
 use Rattle.rule_instances.specs.Parts.{OriginsValid, originsStep, reachAt}
 

@@ -3,8 +3,8 @@
 ghost use mathlib.Core.Bool.{true};
 ghost use mathlib.Core.Path.{_≡_};
 ghost use Rattle.view.specs.Types.{paper};
-ghost use Rattle.view.specs.Rules.{accepted};
-ghost use Rattle.view.specs.Numbers.{viewWith};
+ghost use Rattle.view.specs.Acceptance.{accepted};
+ghost use Rattle.view.specs.Parts.{viewWith};
 ghost use Rattle.rule_view.specs.Parts.{etypeAccepted, filetypeAccepted, shapeApart, ShapeValid};
 use view::Etype;
 use view::Numbers;

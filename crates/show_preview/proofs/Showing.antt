@@ -3,10 +3,10 @@ use Rattle.laws.proofs.Prelude.{ℕ, _<_, _≡_, ap, _∙_, Bool, true, false, 
 use Rattle.view.specs.declared.Numbers.{Numbers}
 use Rattle.view.specs.Limits.{offsetAllowed}
 use Rattle.view.specs.Types.{paper}
-use Rattle.view.specs.Rules.{accepted, Valid}
-use Rattle.view.specs.Numbers.{viewWith}
+use Rattle.view.specs.Acceptance.{accepted, Valid}
+use Rattle.view.specs.Parts.{viewWith}
 use Rattle.view.proofs.Accepted.{accepted-valid}
-use Rattle.view_place.specs.Spots.{Tiled, OriginsLow}
+use Rattle.view_place.specs.Parts.{Tiled, OriginsLow}
 use Rattle.view_place.proofs.Laid.{tiled, origins-low}
 
 module _ (v : Numbers) (ws ds ps : List ℕ) (mode : ℕ) (t : Bool) (e : t ≡ accepted mode (paper (viewWith v ws ds ps))) (h : not t ≡ false) where

@@ -1,14 +1,13 @@
 // One small example of every call, in the order of docs/manual.md, which shows these functions and what they print.
 // P1, P4 and so on are document 01's figures. A word is an entry of width 4 at 0, extent 4.
+use file::AccessAnswer;
 use file::FileRecord;
 use file::Handle;
 use file::OpenAnswer;
-use file::ReadAnswer;
 use file::ReverseAnswer;
 use file::SeekAnswer;
 use file::SetViewAnswer;
 use file::TypeShape;
-use file::WriteAnswer;
 use libc::STDOUT_FILENO;
 use view::BytePos;
 use view::Offset;
@@ -73,11 +72,11 @@ fn show_seek(text: &[u8], a: SeekAnswer) {
     show_transfer(text, a.refusal, a.count, a.handle.pointer, a.file);
 }
 
-fn show_read(text: &[u8], a: ReadAnswer) {
+fn show_read(text: &[u8], a: AccessAnswer) {
     show_transfer(text, a.refusal, a.count, a.handle.pointer, a.file);
 }
 
-fn show_write(text: &[u8], a: WriteAnswer) {
+fn show_write(text: &[u8], a: AccessAnswer) {
     show_transfer(text, a.refusal, a.count, a.handle.pointer, a.file);
 }
 

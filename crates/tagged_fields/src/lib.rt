@@ -2,8 +2,10 @@
 ghost use mathlib.Core.Path.{_≡_};
 ghost use Prim.Native.Nat.{_+_, _*_, _^_, _≤_, _<_, min};
 ghost use lib.ListN.{length};
-ghost use Rattle.laws.specs.Lists.{nth, front};
-ghost use Rattle.tagged_fields.specs.Fields.{numberBytes, little, numberAt, signedOf, signedAt, numberFrom, signedFrom, fieldAt};
+ghost use Rattle.laws.specs.Lists.{nth};
+ghost use Rattle.laws.specs.Parts.{front};
+ghost use Rattle.tagged_fields.specs.Parts.{numberBytes, numberAt, signedOf, signedAt, numberFrom, signedFrom};
+ghost use Rattle.tagged_fields.specs.Fields.{little, fieldAt};
 
 // What stands at a place: a whole field, with its tag and where its body begins and how long it is; one that is cut short; or the end of the run.
 pub enum Field {

@@ -279,10 +279,10 @@ fn write(body: &[u8], h: Handle, file: &mut [u8], rec: FileRecord) -> Line {
 
 // A line's numbers of an owner.
 fn owner_numbers(owner: Owner) -> [u64; 5] {
-    match owner {
-        Owner::Pair(o, index) => [1, view::natural(o.0), index, 0, 0],
-        Owner::Nobody => [0u64; 5],
-    }
+    let n = owner.numbers();
+    let offset = n.offset;
+    let named = if n.named { 1 } else { 0 };
+    [named, view::natural(offset.0), n.index, 0, 0]
 }
 
 // Tag 45.

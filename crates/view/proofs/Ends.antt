@@ -1,9 +1,11 @@
 -- End of file: the greatest over the instances is the smallest offset such that no etype at it or later begins below the size, and nothing else is.
 use Rattle.laws.proofs.Prelude.{ℕ, _+_, _-_, _*_, _/_, _%_, _≤_, _<_, _≡_, ⊎-elim, arith, div-add-mod', mod-lt, le-div-iff-mul-le, mul-le-mul-right, div-mul-le-self, le-antisymm, lt-ltb, le-ltb, greatest, lt-or-le, run-div, run-mod, greatest-above, greatest-one}
 use Rattle.view.specs.Types.{PaperView, extentOf, whole}
-use Rattle.view.specs.Rules.{instances, origin, Valid}
+use Rattle.view.specs.Rules.{instances, origin}
+use Rattle.view.specs.Acceptance.{Valid}
 use Rattle.view.specs.Places.{place}
-use Rattle.view.specs.End.{IsEnd, endFrom, endOfFile}
+use Rattle.view.specs.End.{IsEnd}
+use Rattle.view.specs.Parts.{endFrom, endOfFile}
 use Rattle.view.proofs.Accepted.{Facts, facts, instances-some}
 
 module _ (v : PaperView) (f : Facts v) (size : ℕ) where

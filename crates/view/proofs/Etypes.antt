@@ -1,6 +1,6 @@
 -- What an etype's lists add up to, entry by entry, and that no sum of it wraps.
 use Rattle.laws.proofs.Prelude.{ℕ, _+_, _*_, _≤_, _<_, _≡_, refl, ap, _∙_, List, arith, mul-le-mul, getD, w64, Fits, total, nth, Highest, highest-end, total-more, total-most}
-use Rattle.view.specs.Etypes.{EntriesValid, WidthsValid, entryEnd, reachOf, sizeOf}
+use Rattle.view.specs.Parts.{EntriesValid, WidthsValid, entryEnd, reachOf, sizeOf}
 
 -- ---- the data size
 

@@ -3,7 +3,7 @@ use Rattle.laws.proofs.Prelude.{ℕ, _+_, _≤_, _<_, _≡_, sym, ap, _∙_, tr
 use Rattle.view.specs.declared.View.{View}
 use Rattle.view.specs.Limits.{widthAllowed}
 use Rattle.view.specs.Types.{paper}
-use Rattle.view.specs.Rules.{Valid}
+use Rattle.view.specs.Acceptance.{Valid}
 use Rattle.view.proofs.Paper.{paper-start, paper-entries, paper-width, paper-displacement, paper-instances, paper-origin, paper-file-extent}
 use Rattle.view.proofs.Accepted.{Facts, facts, instances-some, instances-few, origin-small}
 

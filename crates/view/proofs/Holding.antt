@@ -2,7 +2,9 @@
 use Rattle.laws.proofs.Prelude.{ℕ, _+_, _/_, _%_, _≤_, _<_, _≡_, refl, sym, ap, _∙_, true, arith, mod-lt, length, getD, replicate, length-replicate, getD-replicate, ℤ, pos, negsuc, eqb-true, nth, front, tabulate, not-both, also-inv, all-at, runs-below, tabulate-is, front-at, front-past}
 use Rattle.view.specs.Limits.{displacementAllowed, extentAllowed, entryDisplacementAllowed}
 use Rattle.view.specs.Types.{PaperType, PaperView, entries, widthAt, displacementAt, extentOf, whole, paper}
-use Rattle.view.specs.Rules.{paired, entryAllowed, entriesAllowed, instances, origin, recordOf, accepted}
+use Rattle.view.specs.Rules.{paired, entryAllowed, entriesAllowed, instances, origin}
+use Rattle.view.specs.Parts.{recordOf}
+use Rattle.view.specs.Acceptance.{accepted}
 use Rattle.view.proofs.Accepted.{Rules, rules, Facts, facts, accepted-valid, built-entry, entry-built-inv, instances-few}
 
 -- a number that is in range is the natural number taken for it

@@ -3,9 +3,11 @@
 -- Later landings use `distinct` and `narrow` alone: a new overlap rule proves these two again.
 use Rattle.laws.proofs.Prelude.{ℕ, zero, suc, _+_, _-_, _*_, _/_, _%_, _≤_, _<_, _≡_, sym, ap, _∙_, true, ⊎-elim, arith, div-add-mod', mod-lt, add-mul, mul-assoc, add-zero, add-suc, zero-div, zero-mod, div-self, mod-self, add-one, leb-true, lt-ltb, le-ltb, lt-or-le, all-at, run-div, run-mod, run-below, next-in, next-over, times-more}
 use Rattle.view.specs.Types.{PaperView, entries, widthAt, displacementAt, extentOf, whole}
-use Rattle.view.specs.Rules.{instances, apart, entryApart, nextBegins, accepted}
+use Rattle.view.specs.Rules.{instances, apart, entryApart, nextBegins}
+use Rattle.view.specs.Acceptance.{accepted}
 use Rattle.view.specs.Modes.{allowsWriting}
-use Rattle.view.specs.Places.{place, dataSize, packedBefore, entryOf, dataAt, byteOf, Distinct, Narrow}
+use Rattle.view.specs.Places.{place, dataSize, packedBefore, entryOf, dataAt, byteOf}
+use Rattle.view.specs.Parts.{Distinct, Narrow}
 use Rattle.view.proofs.Accepted.{Facts, facts, accepted-valid, writing-apart, instances-some}
 use Rattle.view.proofs.Packing.{entry-below, entry-ends, entry-begins}
 

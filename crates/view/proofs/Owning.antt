@@ -1,12 +1,14 @@
 -- The reverse lookup: what it finds is the pair that the byte belongs to, or there is none; and nothing else is.
-use Rattle.laws.proofs.Prelude.{ℕ, _+_, _-_, _*_, _/_, _%_, _≤_, _<_, _≡_, refl, sym, ap, _∙_, true, not, ⊎-elim, arith, div-add-mod', mod-lt, eq-or-lt-of-le, pos, lt-ltb, le-ltb, le-leb, ltb-true, leb-true, not-false, not-true, first, also-inv, also-true, lt-or-le, not-both, first-le, first-keeps, first-breaks, run-div, run-mod, run-below, runs-below}
+use Rattle.laws.proofs.Prelude.{ℕ, _+_, _-_, _*_, _/_, _%_, _≤_, _<_, _≡_, refl, sym, ap, _∙_, true, not, ⊎-elim, arith, div-add-mod', mod-lt, eq-or-lt-of-le, pos, lt-ltb, le-ltb, le-leb, ltb-true, leb-true, not-false, not-true, leastFalse, also-inv, also-true, lt-or-le, not-both, least-false-le, least-false-keeps, least-false-breaks, run-div, run-mod, run-below, runs-below}
 use Rattle.view.specs.declared.Owner.{Owner}
 use Rattle.view.specs.declared.Owner.the-variants.{Pair, Nobody}
 use Rattle.view.specs.Types.{PaperView, entries, widthAt, displacementAt, extentOf, whole}
-use Rattle.view.specs.Rules.{instances, accepted}
+use Rattle.view.specs.Rules.{instances}
+use Rattle.view.specs.Acceptance.{accepted}
 use Rattle.view.specs.Modes.{allowsWriting}
-use Rattle.view.specs.Places.{place, packedBefore, dataSize, entryOf, dataAt, byteOf, Distinct, Narrow}
-use Rattle.view.specs.Owners.{Belongs, OneOwner, Answers, entryStart, offsetIn, indexIn, hits, hitEntry, ownerOf}
+use Rattle.view.specs.Places.{place, packedBefore, dataSize, entryOf, dataAt, byteOf}
+use Rattle.view.specs.Parts.{Distinct, Narrow, entryStart, offsetIn, indexIn, hits, hitEntry, ownerOf}
+use Rattle.view.specs.Owners.{Belongs, OneOwner, ownerNumbers, Answers}
 use Rattle.view.proofs.Accepted.{Facts, facts, accepted-valid, instances-some}
 use Rattle.view.proofs.Packing.{entry-below, entry-ends, entry-begins, data-run, packed-part}
 use Rattle.view.proofs.Injective.{distinct, narrow}
@@ -112,37 +114,45 @@ module _ (v : PaperView) (f : Facts v) (b : ℕ) where
     -- so the search ends before the last entry
     search-ends : hitEntry v b < entries (v .filetype)
     unfolding hitEntry
-    search-ends = ⊎-elim (λ e. absurd (missed e)) (λ q. q) (eq-or-lt-of-le (first-le _ (entries (v .filetype))))
+    search-ends = ⊎-elim (λ e. absurd (missed e)) (λ q. q) (eq-or-lt-of-le (least-false-le _ (entries (v .filetype))))
       where
-        missed : first (λ i. not (hits v b i)) (entries (v .filetype)) ≡ entries (v .filetype) → ⊥
+        missed : leastFalse (λ i. not (hits v b i)) (entries (v .filetype)) ≡ entries (v .filetype) → ⊥
         missed e =
-            let u : tried < first (λ i. not (hits v b i)) (entries (v .filetype)) = omega (arith, tried-below) in
-            not-both belongs-hit (not-true _ (first-keeps (λ i. not (hits v b i)) (entries (v .filetype)) tried u))
+            let u : tried < leastFalse (λ i. not (hits v b i)) (entries (v .filetype)) = omega (arith, tried-below) in
+            not-both belongs-hit (not-true _ (least-false-keeps (λ i. not (hits v b i)) (entries (v .filetype)) tried u))
 
   found-hits : hitEntry v b < entries (v .filetype) → hits v b (hitEntry v b) ≡ true
   unfolding hitEntry
-  found-hits l = not-false _ (first-breaks (λ i. not (hits v b i)) (entries (v .filetype)) l)
+  found-hits l = not-false _ (least-false-breaks (λ i. not (hits v b i)) (entries (v .filetype)) l)
 
   answers : Narrow v → Answers v b (ownerOf v b)
-  unfolding ownerOf Answers
+  unfolding ownerOf ownerNumbers
   answers n = ⊎-elim found nobody (lt-or-le (hitEntry v b) (entries (v .filetype)))
     where
       found : hitEntry v b < entries (v .filetype) → Answers v b (ownerOf v b)
-      found l = rw (lt-ltb (hitEntry v b) (entries (v .filetype)) l) (offsetIn v b (hitEntry v b), (refl, hit-belongs (hitEntry v b) l (found-hits l)))
+      found l = rw (lt-ltb (hitEntry v b) (entries (v .filetype)) l) (record {
+        pair = λ _. (offsetIn v b (hitEntry v b), (refl, hit-belongs (hitEntry v b) l (found-hits l)));
+        none = λ e. absurd (not-both refl e);
+      })
 
       nobody : entries (v .filetype) ≤ hitEntry v b → Answers v b (ownerOf v b)
-      nobody l = rw (le-ltb (hitEntry v b) (entries (v .filetype)) l) (λ x j p. omega (arith, search-ends n x j p))
+      nobody l = rw (le-ltb (hitEntry v b) (entries (v .filetype)) l) (record {
+        pair = λ e. absurd (not-both e refl);
+        none = λ _ x j p. omega (arith, search-ends n x j p);
+      })
 
 -- two answers for one byte are the same
 one-answer : (v : PaperView) (b : ℕ) → Distinct v → (o p : Owner) → Answers v b o → Answers v b p → o ≡ p
-unfolding Answers
+unfolding ownerNumbers
 one-answer v b d (Pair o j) (Pair p k) a c =
-    let s = belongs-one v b (a .0) (c .0) j k d (a .1 .1) (c .1 .1) in
-    let e : o .0 ≡ p .0 = a .1 .0 ∙ ap pos (s .0) ∙ sym (c .1 .0) in
+    let m = a .pair refl in
+    let n = c .pair refl in
+    let s = belongs-one v b (m .0) (n .0) j k d (m .1 .1) (n .1 .1) in
+    let e : o .0 ≡ p .0 = m .1 .0 ∙ ap pos (s .0) ∙ sym (n .1 .0) in
     let g : j ≡ k = s .1 in
     λ i. Pair (record { 0 = e i }) (g i)
-one-answer v b d (Pair o j) Nobody a c = absurd (c (a .0) j (a .1 .1))
-one-answer v b d Nobody (Pair p k) a c = absurd (a (c .0) k (c .1 .1))
+one-answer v b d (Pair o j) Nobody a c = let m = a .pair refl in absurd (c .none refl (m .0) j (m .1 .1))
+one-answer v b d Nobody (Pair p k) a c = let n = c .pair refl in absurd (a .none refl (n .0) k (n .1 .1))
 one-answer v b d Nobody Nobody a c = refl
 
 -- ---- of a view that is accepted for writing

@@ -1,5 +1,5 @@
 -- The packed data of an etype: which entry holds a packed byte, and where it lies.
-use Rattle.laws.proofs.Prelude.{ℕ, _+_, _-_, _≤_, _<_, _≡_, refl, sym, ap, ⊎-elim, arith, eq-zero-or-pos, eq-or-lt-of-le, leb, leb-true, leb-false, le-leb, lt-leb, total, first, first-le, first-keeps, first-breaks, first-is, total-part, total-more}
+use Rattle.laws.proofs.Prelude.{ℕ, _+_, _-_, _≤_, _<_, _≡_, refl, sym, ap, ⊎-elim, arith, eq-zero-or-pos, eq-or-lt-of-le, leb, leb-true, leb-false, le-leb, lt-leb, total, leastFalse, least-false-le, least-false-keeps, least-false-breaks, least-false-is, total-part, total-more}
 use Rattle.view.specs.Types.{PaperType, entries, widthAt, displacementAt}
 use Rattle.view.specs.Places.{packedBefore, entryOf, dataAt}
 
@@ -20,27 +20,27 @@ module _ (t : PaperType) where
   module _ (j : ℕ) (l : j < packedBefore t (entries t)) where
     pub entry-below : entryOf t j < entries t
     unfolding entryOf
-    entry-below = ⊎-elim (λ e. absurd (none e)) (λ q. q) (eq-or-lt-of-le (first-le _ (entries t)))
+    entry-below = ⊎-elim (λ e. absurd (none e)) (λ q. q) (eq-or-lt-of-le (least-false-le _ (entries t)))
       where
-        none : first (λ i. leb (packedBefore t (i + 1)) j) (entries t) ≡ entries t → ⊥
+        none : leastFalse (λ i. leb (packedBefore t (i + 1)) j) (entries t) ≡ entries t → ⊥
         none e = ⊎-elim (λ z. omega (arith, l, ap (packedBefore t) z, packed-none)) (λ p. last p) (eq-zero-or-pos (entries t))
           where
             last : 0 < entries t → ⊥
             last p =
                 let n : entries t - 1 + 1 ≡ entries t = omega arith in
-                let k = first-keeps (λ i. leb (packedBefore t (i + 1)) j) (entries t) (entries t - 1) (omega arith) in
+                let k = least-false-keeps (λ i. leb (packedBefore t (i + 1)) j) (entries t) (entries t - 1) (omega arith) in
                 omega (arith, l, leb-true (packedBefore t (entries t - 1 + 1)) j k, ap (packedBefore t) n)
 
     ends-after : j < packedBefore t (entryOf t j + 1)
     unfolding entryOf
-    ends-after = leb-false (packedBefore t (entryOf t j + 1)) j (first-breaks (λ i. leb (packedBefore t (i + 1)) j) (entries t) entry-below)
+    ends-after = leb-false (packedBefore t (entryOf t j + 1)) j (least-false-breaks (λ i. leb (packedBefore t (i + 1)) j) (entries t) entry-below)
 
     pub entry-ends : j < packedBefore t (entryOf t j) + widthAt t (entryOf t j)
     entry-ends = omega (arith, packed-more (entryOf t j), ends-after)
 
     begins-before : 0 < entryOf t j → packedBefore t (entryOf t j - 1 + 1) ≤ j
     unfolding entryOf
-    begins-before p = leb-true (packedBefore t (entryOf t j - 1 + 1)) j (first-keeps (λ i. leb (packedBefore t (i + 1)) j) (entries t) (entryOf t j - 1) (omega arith))
+    begins-before p = leb-true (packedBefore t (entryOf t j - 1 + 1)) j (least-false-keeps (λ i. leb (packedBefore t (i + 1)) j) (entries t) (entryOf t j - 1) (omega arith))
 
     pub entry-begins : packedBefore t (entryOf t j) ≤ j
     entry-begins =
@@ -52,7 +52,7 @@ module _ (t : PaperType) where
   module _ (e r : ℕ) (le : e < entries t) (lr : r < widthAt t e) where
     pub entry-run : entryOf t (packedBefore t e + r) ≡ e
     unfolding entryOf
-    entry-run = sym (first-is (λ i. leb (packedBefore t (i + 1)) (packedBefore t e + r)) (entries t) e (omega arith)
+    entry-run = sym (least-false-is (λ i. leb (packedBefore t (i + 1)) (packedBefore t e + r)) (entries t) e (omega arith)
         (λ k l. le-leb (packedBefore t (k + 1)) (packedBefore t e + r) (omega (arith, packed-more k, packed-part k e l)))
         (λ l. lt-leb (packedBefore t (e + 1)) (packedBefore t e + r) (omega (arith, packed-more e))))
 

@@ -1,7 +1,8 @@
 -- The view on paper that a view's record stands for, number by number.
 use Rattle.laws.proofs.Prelude.{ℕ, _+_, _*_, _/_, _%_, _<_, _≡_, refl, ap, _∙_, arith, mul-div-cancel, mul-mod-left, mod-lt, mul-lt-mul-of-pos-right, getD, pos, nth, tabulate, runs-below, length-tabulate, tabulate-at, tabulate-same}
 use Rattle.view.specs.declared.View.{View}
-use Rattle.view.specs.Types.{paper, SameView, entries, widthAt, displacementAt, extentOf, whole}
+use Rattle.view.specs.Types.{paper, entries, widthAt, displacementAt, extentOf, whole}
+use Rattle.view.specs.Parts.{SameView}
 use Rattle.view.specs.Rules.{instances, origin}
 use Rattle.view.specs.Places.{place}
 

@@ -5,6 +5,5 @@ pub mod Rules
 pub mod Places
 pub mod Owners
 pub mod End
-pub mod Same
-pub mod Numbers
-pub mod Etypes
+pub mod Parts
+pub mod Acceptance

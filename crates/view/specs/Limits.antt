@@ -1,32 +1,9 @@
--- Document 01, "A type on paper": the table of limits, a definition for each row.
+-- Must be believed. Document 01, "A type on paper": the table of limits, a definition for each row.
 use Prim.Native.Nat.{ℕ, _+_, _*_}
 use mathlib.Core.Bool.{Bool, false}
 use lib.Dec.{leb, ltb, eqb}
 use lib.IntN.{ℤ, pos, negsuc}
 use Rattle.laws.specs.Checks.{also, either, within}
-
--- ---- its numbers
-
-abbrev pub maxEtypeEntries : ℕ
-maxEtypeEntries = 8
-
-abbrev pub maxFiletypeEntries : ℕ
-maxFiletypeEntries = 256
-
--- how many times the etype's entries a filetype has at most
-abbrev pub maxInstances : ℕ
-maxInstances = 64
-
--- of an entry's displacement plus its width
-abbrev pub maxEntryEnd : ℕ
-maxEntryEnd = 1048576
-
-abbrev pub maxExtent : ℕ
-maxExtent = 1048576
-
--- 2^40
-abbrev pub maxDisplacement : ℕ
-maxDisplacement = 1099511627776
 
 -- 2^32: offsets of one etype lie below it, and the pointer reaches it
 abbrev pub offsetCount : ℕ
@@ -36,33 +13,31 @@ offsetCount = 4294967296
 abbrev pub maxFileLength : ℕ
 maxFileLength = 1099511627776
 
--- ---- its rows
-
 -- width: 1, 2, 4 or 8
 unfoldable pub widthAllowed : ℕ → Bool
 widthAllowed w = either (eqb w 1) (either (eqb w 2) (either (eqb w 4) (eqb w 8)))
 
 -- entries of an etype: 1 to 8
 unfoldable pub etypeEntriesAllowed : ℕ → Bool
-etypeEntriesAllowed n = within 1 maxEtypeEntries n
+etypeEntriesAllowed n = within 1 8 n
 
 -- entries of a filetype: 1 to 256, and at most 64 times the etype's
 unfoldable pub filetypeEntriesAllowed : ℕ → ℕ → Bool
-filetypeEntriesAllowed n m = also (within 1 maxFiletypeEntries m) (leb m (maxInstances * n))
+filetypeEntriesAllowed n m = also (within 1 256 m) (leb m (64 * n))
 
 -- entry displacement: at least 0, and displacement + width at most 1,048,576
 unfoldable pub entryDisplacementAllowed : ℕ → ℤ → Bool
-entryDisplacementAllowed w (pos d) = leb (d + w) maxEntryEnd
+entryDisplacementAllowed w (pos d) = leb (d + w) 1048576
 entryDisplacementAllowed w (negsuc d) = false
 
 -- extent of either type: 1 to 1,048,576
 unfoldable pub extentAllowed : ℤ → Bool
-extentAllowed (pos x) = within 1 maxExtent x
+extentAllowed (pos x) = within 1 1048576 x
 extentAllowed (negsuc x) = false
 
 -- view displacement: 0 to 2^40
 unfoldable pub displacementAllowed : ℤ → Bool
-displacementAllowed (pos d) = leb d maxDisplacement
+displacementAllowed (pos d) = leb d 1099511627776
 displacementAllowed (negsuc d) = false
 
 -- offset of one etype: 0 to 2^32 - 1

@@ -1,4 +1,4 @@
--- Document 01, "When a view is accepted": the modes, 1 reading, 2 writing, 3 both.
+-- Must be believed. Document 01, "When a view is accepted": the modes, 1 reading, 2 writing, 3 both.
 use Prim.Native.Nat.{ℕ}
 use mathlib.Core.Bool.{Bool}
 use lib.Dec.{eqb}

@@ -1,8 +1,7 @@
--- Document 01, "Where an offset lies", and the law of demand 3.
-use Prim.Native.Nat.{ℕ, _+_, _-_, _*_, _/_, _%_, _≤_, _<_}
-use mathlib.Core.Path.{_≡_}
+-- Must be believed. Document 01, "Where an offset lies".
+use Prim.Native.Nat.{ℕ, _+_, _-_, _*_, _/_, _%_}
 use lib.Dec.{leb}
-use Rattle.laws.specs.Search.{first, total}
+use Rattle.laws.specs.Search.{leastFalse, total}
 use Rattle.view.specs.Types.{PaperType, PaperView, entries, widthAt, displacementAt, extentOf, whole}
 use Rattle.view.specs.Rules.{instances, origin}
 
@@ -20,7 +19,7 @@ dataSize v = packedBefore (v .etype) (entries (v .etype))
 
 -- the entry that holds packed byte j: the first one that ends after it
 unfoldable pub entryOf : PaperType → ℕ → ℕ
-entryOf t j = first (λ i. leb (packedBefore t (i + 1)) j) (entries t)
+entryOf t j = leastFalse (λ i. leb (packedBefore t (i + 1)) j) (entries t)
 
 -- where packed byte j lies from the beginning of its etype: the entry's displacement plus the byte's index in the entry
 unfoldable pub dataAt : PaperType → ℕ → ℕ
@@ -29,11 +28,3 @@ dataAt t j = displacementAt t (entryOf t j) + (j - packedBefore t (entryOf t j))
 -- the file byte of data byte j of the etype at offset x
 unfoldable pub byteOf : PaperView → ℕ → ℕ → ℕ
 byteOf v x j = place v x + dataAt (v .etype) j
-
--- different pairs lie at different bytes, whatever the offsets
-pub record Distinct (v : PaperView) : Type 0 where
-  pub same : (x y j k : ℕ) → j < dataSize v → k < dataSize v → byteOf v x j ≡ byteOf v y k → (x ≡ y) × (j ≡ k)
-
--- no entry is wider than F
-pub record Narrow (v : PaperView) : Type 0 where
-  pub width : (i : ℕ) → i < entries (v .etype) → widthAt (v .etype) i ≤ extentOf (v .filetype)

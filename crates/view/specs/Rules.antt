@@ -1,18 +1,16 @@
--- Document 01, "When a view is accepted", and refusals 2 to 10.
+-- Must be believed. Document 01, "When a view is accepted": the rules. What a set is refused with is in Acceptance.antt.
 use Prim.Native.Nat.{ℕ, zero, suc, _+_, _-_, _*_, _/_, _%_, _<_}
-use mathlib.Core.Bool.{Bool, true, cond, not}
+use mathlib.Core.Bool.{Bool, cond}
 use mathlib.Core.List.{List, [], _∷_}
 use mathlib.Core.Path.{_≡_}
 use lib.Dec.{leb, ltb, eqb}
 use lib.IntN.{pos}
-use lib.ListN.{length, getD, replicate}
-use Rattle.laws.specs.Checks.{also, either, check}
+use lib.ListN.{length, getD}
+use Rattle.laws.specs.Checks.{also}
 use Rattle.laws.specs.Search.{all}
-use Rattle.laws.specs.Lists.{front, nth}
-use Rattle.view.specs.declared.View.{View}
-use Rattle.view.specs.Limits.{maxEtypeEntries, maxInstances, widthAllowed, etypeEntriesAllowed, filetypeEntriesAllowed, entryDisplacementAllowed, extentAllowed, displacementAllowed}
-use Rattle.view.specs.Modes.{allowsWriting}
-use Rattle.view.specs.Types.{PaperType, PaperView, entries, widthAt, displacementAt, extentOf, whole}
+use Rattle.laws.specs.Lists.{nth}
+use Rattle.view.specs.Limits.{widthAllowed, etypeEntriesAllowed, filetypeEntriesAllowed, entryDisplacementAllowed}
+use Rattle.view.specs.Types.{PaperType, PaperView, entries, widthAt, displacementAt, extentOf}
 
 -- ---- limits
 
@@ -27,6 +25,14 @@ isNative r = also (eqb (length r) 6) (all (λ i. eqb (nth r i) (nth nativeName i
 unfoldable pub paired : PaperType → Bool
 paired t = eqb (length (t .widths)) (length (t .displacements))
 
+-- and both entry counts are allowed
+abbrev pub countsAllowed : PaperView → Bool
+countsAllowed v =
+    also (paired (v .etype))
+    (also (paired (v .filetype))
+    (also (etypeEntriesAllowed (entries (v .etype)))
+    (filetypeEntriesAllowed (entries (v .etype)) (entries (v .filetype)))))
+
 -- 6: width and displacement of entry i are allowed
 unfoldable pub entryAllowed : PaperType → ℕ → Bool
 entryAllowed t i = also (widthAllowed (widthAt t i)) (entryDisplacementAllowed (widthAt t i) (getD (t .displacements) i (pos 0)))
@@ -36,11 +42,8 @@ entriesAllowed t = all (entryAllowed t) (entries t)
 
 -- ---- Ordered: the displacements never decrease
 
-unfoldable pub ordered : (ℕ → ℕ) → ℕ → Bool
-ordered d n = all (λ i. leb (d i) (d (i + 1))) (n - 1)
-
 unfoldable pub typeOrdered : PaperType → Bool
-typeOrdered t = ordered (displacementAt t) (entries t)
+typeOrdered t = all (λ i. leb (displacementAt t i) (displacementAt t (i + 1))) (entries t - 1)
 
 -- ---- Built of the etype
 
@@ -60,18 +63,6 @@ pub record IsBuilt (v : PaperView) : Type 0 where
   pub widths : (g e : ℕ) → g < groups → e < entries (v .etype) → widthAt (v .filetype) (g * entries (v .etype) + e) ≡ widthAt (v .etype) e
   pub displacements : (g e : ℕ) → g < groups → e < entries (v .etype) → displacementAt (v .filetype) (g * entries (v .etype) + e) ≡ displacementAt (v .etype) e + shift g
 
--- how it is tested: entry i of the filetype is entry i mod n of the etype, shifted by the origin of its group, which is at least 0
-unfoldable pub entryBuilt : PaperView → ℕ → Bool
-entryBuilt v i =
-    let n = entries (v .etype) in
-    also (eqb (widthAt (v .filetype) i) (widthAt (v .etype) (i % n)))
-    (also (leb (displacementAt (v .etype) 0) (displacementAt (v .filetype) (i / n * n)))
-    (eqb (displacementAt (v .filetype) i) (displacementAt (v .etype) (i % n) + origin v (i / n))))
-
--- the filetype's entries fall into whole groups of n, each built so
-unfoldable pub built : PaperView → Bool
-built v = also (eqb (entries (v .filetype) % entries (v .etype)) 0) (all (entryBuilt v) (entries (v .filetype)))
-
 -- ---- Holes: p(0); each p(i+1) - p(i) - E that is positive; F - p(K-1) - E if positive
 
 -- the hole before instance i of k with origins p, and for i = k the last one; 0 where there is none (a difference that is not positive is 0 here)
@@ -80,11 +71,8 @@ hole p k e f zero = p 0
 hole p k e f (suc i) = cond (ltb (suc i) k) (p (suc i)) f - p i - e
 
 -- each is a multiple of E
-unfoldable pub holesFit : (ℕ → ℕ) → ℕ → ℕ → ℕ → Bool
-holesFit p k e f = all (λ i. eqb (hole p k e f i % e) 0) (k + 1)
-
 unfoldable pub viewHolesFit : PaperView → Bool
-viewHolesFit v = holesFit (origin v) (instances v) (extentOf (v .etype)) (extentOf (v .filetype))
+viewHolesFit v = all (λ i. eqb (hole (origin v) (instances v) (extentOf (v .etype)) (extentOf (v .filetype)) i % extentOf (v .etype)) 0) (instances v + 1)
 
 -- ---- Overlap
 
@@ -98,45 +86,3 @@ entryApart v i = leb (displacementAt (v .filetype) i + widthAt (v .filetype) i) 
 
 unfoldable pub apart : PaperView → Bool
 apart v = all (entryApart v) (entries (v .filetype))
-
--- ---- refusals 3 to 10 in their order, and 2 before them
-
-unfoldable pub viewRefusal : ℕ → PaperView → ℕ
-viewRefusal mode v =
-    check (displacementAllowed (v .displacement)) 3
-    (check (also (paired (v .etype)) (also (paired (v .filetype)) (also (etypeEntriesAllowed (entries (v .etype))) (filetypeEntriesAllowed (entries (v .etype)) (entries (v .filetype)))))) 4
-    (check (also (extentAllowed (v .etype .extent)) (extentAllowed (v .filetype .extent))) 5
-    (check (also (entriesAllowed (v .etype)) (entriesAllowed (v .filetype))) 6
-    (check (also (typeOrdered (v .etype)) (typeOrdered (v .filetype))) 7
-    (check (built v) 8
-    (check (viewHolesFit v) 9
-    (check (either (not (allowsWriting mode)) (apart v)) 10
-    0)))))))
-
-unfoldable pub setRefusal : ℕ → List ℕ → PaperView → ℕ
-setRefusal mode representation v = check (isNative representation) 2 (viewRefusal mode v)
-
--- the view keeps the limits and rules for this mode
-unfoldable pub accepted : ℕ → PaperView → Bool
-accepted mode v = eqb (viewRefusal mode v) 0
-
--- every limit and rule but overlap's: accepted for reading. Each view that is accepted for some mode keeps these (`accepted-valid`)
-pub record Valid (v : PaperView) : Type 0 where
-  pub keeps : accepted 1 v ≡ true
-
--- ---- the record of an accepted view; its unused places are 0
-
-unfoldable pub recordOf : PaperView → View
-recordOf v =
-    let n = entries (v .etype) in
-    let k = instances v in
-    record {
-      numbers = record {
-        displacement = whole (v .displacement);
-        etype = record { entries = n; extent = extentOf (v .etype) };
-        filetype = record { instances = k; extent = extentOf (v .filetype) };
-      };
-      widths = front (widthAt (v .etype)) n (replicate maxEtypeEntries 0);
-      displacements = front (displacementAt (v .etype)) n (replicate maxEtypeEntries 0);
-      origins = front (origin v) k (replicate maxInstances 0);
-    }

@@ -1,12 +1,10 @@
--- Document 01, "A type on paper": types and views as lists and numbers, and the ones that a view's record stands for.
-use Prim.Native.Nat.{ℕ, _+_, _-_, _*_, _/_, _%_}
-use mathlib.Core.List.{List, _∷_}
-use mathlib.Core.Path.{_≡_}
+-- Must be believed. Document 01, "A type on paper": types and views as lists and numbers, and the ones that a view's record stands for.
+use Prim.Native.Nat.{ℕ, _+_, _*_, _/_, _%_}
+use mathlib.Core.List.{List}
 use lib.IntN.{ℤ, pos, negsuc}
-use lib.ListN.{length, getD, replicate}
+use lib.ListN.{length, getD}
 use Rattle.laws.specs.Lists.{tabulate, nth}
 use Rattle.view.specs.declared.View.{View}
-use Rattle.view.specs.Limits.{maxEtypeEntries, maxInstances}
 
 -- a type on paper: a list of widths, a list of signed displacements, and an extent
 pub record PaperType : Type 0 where
@@ -19,6 +17,20 @@ pub record PaperView : Type 0 where
   pub displacement : ℤ
   pub etype : PaperType
   pub filetype : PaperType
+
+-- the view of lists and numbers as they are lent to a set: displacement, and widths, displacements and extent of the etype and of the filetype
+abbrev pub viewOfLists : ℤ → List ℕ → List ℤ → ℤ → List ℕ → List ℤ → ℤ → PaperView
+viewOfLists d ew ed ex fw fd fx = record { displacement = d; etype = record { widths = ew; displacements = ed; extent = ex }; filetype = record { widths = fw; displacements = fd; extent = fx } }
+
+-- the four lists that giving a view back fills: widths and displacements of each type
+pub record Typemaps : Type 0 where
+  pub etype-widths : List ℕ
+  pub etype-displacements : List ℤ
+  pub filetype-widths : List ℕ
+  pub filetype-displacements : List ℤ
+
+abbrev pub typemaps : List ℕ → List ℤ → List ℕ → List ℤ → Typemaps
+typemaps ew ed fw fd = record { etype-widths = ew; etype-displacements = ed; filetype-widths = fw; filetype-displacements = fd }
 
 -- a signed number that is at least 0, as a natural one; the rules ask it of no other
 unfoldable pub whole : ℤ → ℕ
@@ -39,35 +51,26 @@ displacementAt t i = whole (getD (t .displacements) i (pos 0))
 unfoldable pub extentOf : PaperType → ℕ
 extentOf t = whole (t .extent)
 
--- the view that a view's record stands for: of the etype's lists the places in use, and for each origin in use the etype shifted by it.
--- All that is said of a record below is said of this; what its other places hold plays no part
-unfoldable pub paper : View → PaperView
-paper v =
+-- ---- the view that a record stands for: all that is said of a record is said of this, and what its unused places hold plays no part
+
+-- its etype: the places in use
+abbrev pub etypeOf : View → PaperType
+etypeOf v = record {
+  widths = tabulate (λ i. nth (v .widths) i) (v .numbers .etype .entries);
+  displacements = tabulate (λ i. pos (nth (v .displacements) i)) (v .numbers .etype .entries);
+  extent = pos (v .numbers .etype .extent);
+}
+
+-- its filetype: with n entries in the etype, entry i is entry i mod n of the etype, shifted by origin i div n
+abbrev pub filetypeOf : View → PaperType
+filetypeOf v =
     let n = v .numbers .etype .entries in
     let k = v .numbers .filetype .instances in
     record {
-      displacement = pos (v .numbers .displacement);
-      etype = record {
-        widths = tabulate (λ i. nth (v .widths) i) n;
-        displacements = tabulate (λ i. pos (nth (v .displacements) i)) n;
-        extent = pos (v .numbers .etype .extent);
-      };
-      filetype = record {
-        widths = tabulate (λ i. nth (v .widths) (i % n)) (k * n);
-        displacements = tabulate (λ i. pos (nth (v .origins) (i / n) + nth (v .displacements) (i % n))) (k * n);
-        extent = pos (v .numbers .filetype .extent);
-      };
+      widths = tabulate (λ i. nth (v .widths) (i % n)) (k * n);
+      displacements = tabulate (λ i. pos (nth (v .origins) (i / n) + nth (v .displacements) (i % n))) (k * n);
+      extent = pos (v .numbers .filetype .extent);
     }
 
--- views are the same if displacement and the lists and extents of both types are equal (the representation is always `native`), whatever else the records hold
-unfoldable pub SameView : View → View → Type 0
-SameView v w = paper v ≡ paper w
-
--- the default view: displacement 0, both types one entry of width 1 at 0 with extent 1
-unfoldable pub defaultView : View
-defaultView = record {
-  numbers = record { displacement = 0; etype = record { entries = 1; extent = 1 }; filetype = record { instances = 1; extent = 1 } };
-  widths = 1 ∷ replicate (maxEtypeEntries - 1) 0;
-  displacements = replicate maxEtypeEntries 0;
-  origins = replicate maxInstances 0;
-}
+unfoldable pub paper : View → PaperView
+paper v = record { displacement = pos (v .numbers .displacement); etype = etypeOf v; filetype = filetypeOf v }

@@ -6,7 +6,9 @@ mod totals;
 ghost use mathlib.Core.Path.{_≡_};
 ghost use Prim.Native.Nat.{_<_};
 ghost use lib.IntN.{pos};
-ghost use Rattle.view.specs.Types.{defaultView, whole};
+ghost use Rattle.view.specs.Parts.{defaultView};
+ghost use Rattle.view.specs.Types.{whole};
+ghost use Rattle.view.specs.Owners.{ownerNumbers};
 
 // An etype offset: a count of etypes from the beginning of the view. Offsets come in signed.
 pub struct Offset(pub i64);
@@ -51,6 +53,33 @@ pub struct View {
 pub enum Owner {
     Pair(Offset, u64),
     Nobody,
+}
+
+// The numbers of a lookup's answer: whether a pair is named, its offset and its index; both are 0 where none is.
+pub struct OwnerNumbers {
+    pub named: bool,
+    pub offset: Offset,
+    pub index: u64,
+}
+
+impl Owner {
+    // The numbers of either answer.
+    pub fn numbers(self) -> OwnerNumbers
+        ensures { λ r. ⌜ r ≡ ownerNumbers self ⌝ }
+    {
+        match self {
+            Owner::Pair(offset, index) => OwnerNumbers {
+                named: true,
+                offset: offset,
+                index: index,
+            },
+            Owner::Nobody => OwnerNumbers {
+                named: false,
+                offset: Offset(0),
+                index: 0,
+            },
+        }
+    }
 }
 
 impl View {

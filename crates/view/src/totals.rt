@@ -1,6 +1,6 @@
 // What an etype's lists add up to: its data size S, and how far its entries reach. For our own crates, which meet what is required here.
 ghost use mathlib.Core.Path.{_≡_};
-ghost use Rattle.view.specs.Etypes.{WidthsValid, EntriesValid, sizeOf, reachOf};
+ghost use Rattle.view.specs.Parts.{WidthsValid, EntriesValid, sizeOf, reachOf};
 use crate::Etype;
 use crate::PerEntry;
 

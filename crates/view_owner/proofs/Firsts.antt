@@ -1,5 +1,5 @@
 -- Laws of `firstOwner`: what the loop over answers keeps and returns, the same as a search, and answers in runs.
-use Rattle.laws.proofs.Prelude.{ℕ, zero, suc, _+_, _*_, _≤_, _<_, _≡_, refl, sym, ap, _∙_, Bool, true, false, cond, not, ⊎-elim, arith, add-zero, add-suc, eq-or-lt-of-le, zero-mul, add-one, ltb, lt-ltb, le-ltb, not-true, not-false, first, lt-or-le, first-keeps, first-breaks, times-more}
+use Rattle.laws.proofs.Prelude.{ℕ, zero, suc, _+_, _*_, _≤_, _<_, _≡_, refl, sym, ap, _∙_, Bool, true, false, cond, not, ⊎-elim, arith, add-zero, add-suc, eq-or-lt-of-le, zero-mul, add-one, ltb, lt-ltb, le-ltb, not-true, not-false, leastFalse, lt-or-le, least-false-keeps, least-false-breaks, times-more}
 use Rattle.view.specs.declared.Offset.{Offset}
 use Rattle.view.specs.declared.Owner.{Owner}
 use Rattle.view.specs.declared.Owner.the-variants.{Pair, Nobody}
@@ -67,15 +67,15 @@ module _ (hit : ℕ → Bool) (offset : ℕ → Offset) (index : ℕ → ℕ) wh
 
   module _ (n : ℕ) where
     found : ℕ
-    found = first (λ i. not (hit i)) n
+    found = leastFalse (λ i. not (hit i)) n
 
     missed-below : (i : ℕ) → i < found → answerAt i ≡ Nobody
     unfolding found
-    missed-below i l = answer-miss i (not-true (hit i) (first-keeps (λ i. not (hit i)) n i l))
+    missed-below i l = answer-miss i (not-true (hit i) (least-false-keeps (λ i. not (hit i)) n i l))
 
     hit-there : found < n → hit found ≡ true
     unfolding found
-    hit-there l = not-false (hit found) (first-breaks (λ i. not (hit i)) n l)
+    hit-there l = not-false (hit found) (least-false-breaks (λ i. not (hit i)) n l)
 
     first-search : firstOwner answerAt n ≡ cond (ltb found n) (Pair (offset found) (index found)) Nobody
     first-search =
@@ -83,7 +83,7 @@ module _ (hit : ℕ → Bool) (offset : ℕ → Offset) (index : ℕ → ℕ) wh
         (λ l. rw (le-ltb found n l) (first-none answerAt n (λ i q. missed-below i (omega arith))))
         (lt-or-le found n)
 
-  pub first-searched : (n : ℕ) → firstOwner (λ i. cond (hit i) (Pair (offset i) (index i)) Nobody) n ≡ cond (ltb (first (λ i. not (hit i)) n) n) (Pair (offset (first (λ i. not (hit i)) n)) (index (first (λ i. not (hit i)) n))) Nobody
+  pub first-searched : (n : ℕ) → firstOwner (λ i. cond (hit i) (Pair (offset i) (index i)) Nobody) n ≡ cond (ltb (leastFalse (λ i. not (hit i)) n) n) (Pair (offset (leastFalse (λ i. not (hit i)) n)) (index (leastFalse (λ i. not (hit i)) n))) Nobody
   unfolding answerAt found
   first-searched n = first-search n
 

@@ -6,10 +6,9 @@ use Rattle.view.specs.declared.Owner.the-variants.{Pair, Nobody}
 use Rattle.view.specs.declared.View.{View}
 use Rattle.view.specs.declared.Numbers.{Numbers}
 use Rattle.view.specs.Types.{paper, entries, widthAt}
-use Rattle.view.specs.Rules.{Valid}
+use Rattle.view.specs.Acceptance.{Valid}
 use Rattle.view.specs.Places.{packedBefore}
-use Rattle.view.specs.Numbers.{viewWith}
-use Rattle.view.specs.Owners.{entryStart, offsetIn, indexIn, hits, hitEntry, ownerOf}
+use Rattle.view.specs.Parts.{viewWith, entryStart, offsetIn, indexIn, hits, hitEntry, ownerOf}
 use Rattle.view.proofs.Paper.{paper-entries, paper-file-entries, paper-width, paper-file-width, paper-file-displacement, paper-file-extent, paper-start, paper-instances}
 use Rattle.view.proofs.Held.{start-small, some-entry, few-entries, record-entry, record-few, record-extent, record-origin}
 use Rattle.view_owner.specs.Parts.{firstOwner, entryOwner, ownerAt, instanceOwner, InstanceValid}
@@ -82,9 +81,9 @@ module _ (v : View) (k : Valid (paper v)) where
     unfolding fileOwner hits offsetIn indexIn ownerAt entryOwner
     entry-same = rw (start-is, width-is, paper-file-extent v, paper-instances v (some-entry v k), paper-entries v, group, entry, packed-is)
 
-  pub owner-is : (b : ℕ) → firstOwner (ownerFrom v b) (v .numbers .filetype .instances) ≡ ownerOf (paper v) b
+  pub record-owner-is : (b : ℕ) → firstOwner (ownerFrom v b) (v .numbers .filetype .instances) ≡ ownerOf (paper v) b
   unfolding ownerFrom instanceOwner
-  owner-is b =
+  record-owner-is b =
       first-same _ _ (v .numbers .filetype .instances) (λ g l. first-same _ _ (v .numbers .etype .entries) (λ i q. sym (entry-same b g i l q)))
       ∙ sym (first-runs (fileOwner b) (v .numbers .filetype .instances) (v .numbers .etype .entries))
       ∙ ap (firstOwner (fileOwner b)) (sym (paper-file-entries v))
@@ -94,7 +93,7 @@ module _ (v : View) (k : Valid (paper v)) where
 
   module _ (b g : ℕ) (m : Missed (ownerFrom v b) g (v .numbers .filetype .instances)) where
     pub lookup-end : v .numbers .filetype .instances ≤ g → Nobody ≡ ownerOf (paper v) b
-    lookup-end l = missed-end (ownerFrom v b) (v .numbers .filetype .instances) g m l ∙ owner-is b
+    lookup-end l = missed-end (ownerFrom v b) (v .numbers .filetype .instances) g m l ∙ record-owner-is b
 
     module _ (l : g < v .numbers .filetype .instances) (r : Owner) (h : r ≡ instanceOwner (v .numbers .etype .entries) (v .widths) (v .displacements) (v .numbers .filetype .extent) (v .numbers .filetype .instances) g (v .numbers .displacement + getD (v .origins) g 0) b) where
       answered : r ≡ ownerFrom v b g
@@ -105,4 +104,4 @@ module _ (v : View) (k : Valid (paper v)) where
       lookup-more q = missed-more (ownerFrom v b) (v .numbers .filetype .instances) g m l r answered q
 
       pub lookup-stop : (x : Offset) (j : ℕ) → r ≡ Pair x j → r ≡ ownerOf (paper v) b
-      lookup-stop x j q = missed-stop (ownerFrom v b) (v .numbers .filetype .instances) g m l r answered x j q ∙ owner-is b
+      lookup-stop x j q = missed-stop (ownerFrom v b) (v .numbers .filetype .instances) g m l r answered x j q ∙ record-owner-is b

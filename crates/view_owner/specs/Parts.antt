@@ -1,4 +1,4 @@
--- What each part of the reverse lookup finds. A reader need not believe these: the contract of `owner_of` cites `ownerOf`, and the proofs show that these make it up.
+-- Need not be believed. What each part of the reverse lookup finds: the contract of `owner_of` cites `ownerOf`, and the proofs show that these make it up.
 use Prim.Native.Nat.{ℕ, zero, suc, _+_, _-_, _*_, _/_, _%_, _≤_, _<_}
 use mathlib.Core.Bool.{cond}
 use mathlib.Core.List.{List}
@@ -9,7 +9,8 @@ use Rattle.laws.specs.Lists.{nth}
 use Rattle.laws.specs.Search.{total}
 use Rattle.view.specs.declared.Owner.{Owner}
 use Rattle.view.specs.declared.Owner.the-variants.{Pair, Nobody}
-use Rattle.view.specs.Limits.{maxEtypeEntries, maxInstances, maxEntryEnd, maxDisplacement, offsetCount}
+use Rattle.view.specs.Parts.{maxEtypeEntries, maxInstances, maxEntryEnd, maxDisplacement}
+use Rattle.view.specs.Limits.{offsetCount}
 
 -- the pair of byte b if it lies, in some tile of extent F with K instances, in an entry of instance g, or none. In the first tile the entry begins at a; its width is w, and `packed` bytes stand before it in the packed data
 unfoldable pub entryOwner : ℕ → ℕ → ℕ → ℕ → ℕ → ℕ → ℕ → Owner

@@ -3,9 +3,8 @@
 ghost use mathlib.Core.Path.{_≡_};
 ghost use Prim.Native.Nat.{_+_, _<_};
 ghost use Rattle.view.specs.Types.{paper};
-ghost use Rattle.view.specs.Rules.{Valid};
-ghost use Rattle.view.specs.Owners.{ownerOf};
-ghost use Rattle.view.specs.Numbers.{viewWith};
+ghost use Rattle.view.specs.Acceptance.{Valid};
+ghost use Rattle.view.specs.Parts.{ownerOf, viewWith};
 ghost use Rattle.view_owner.specs.Parts.{entryOwner, instanceOwner, InstanceIn, InstanceValid};
 use view::BytePos;
 use view::Numbers;

@@ -2,12 +2,12 @@
 use Rattle.laws.proofs.Prelude.{ℕ, _≡_, sym, greatest-same}
 use Rattle.view.specs.declared.View.{View}
 use Rattle.view.specs.Types.{paper}
-use Rattle.view.specs.Rules.{Valid}
+use Rattle.view.specs.Acceptance.{Valid}
 use Rattle.view.specs.Places.{place}
-use Rattle.view.specs.End.{endOfFile}
+use Rattle.view.specs.Parts.{endOfFile}
 use Rattle.view.proofs.Paper.{paper-instances, paper-origin, paper-place, paper-file-extent, paper-start}
 use Rattle.view.proofs.Held.{start-small, some-entry, record-some, record-few, record-extent, extent-small, record-origin}
-use Rattle.view_place.specs.Spots.{Tiled, OriginsLow, placeOn, endAt, endOn}
+use Rattle.view_place.specs.Parts.{Tiled, OriginsLow, placeOn, endAt, endOn}
 
 module _ (v : View) (k : Valid (paper v)) where
   pub tiled : Tiled (v .numbers)
@@ -26,8 +26,8 @@ module _ (v : View) (k : Valid (paper v)) where
   unfolding placeOn
   place-is x = sym (paper-place v (some-entry v k) (record-some v k) x)
 
-  pub end-is : (size : ℕ) → endOn (v .numbers) (v .origins) size ≡ endOfFile (paper v) size
+  pub end-on-is : (size : ℕ) → endOn (v .numbers) (v .origins) size ≡ endOfFile (paper v) size
   unfolding endOn endAt endOfFile
-  end-is size =
+  end-on-is size =
       rw (paper-instances v (some-entry v k), paper-start v, paper-file-extent v)
       (greatest-same _ _ (v .numbers .filetype .instances) (λ i l. rw (paper-origin v (some-entry v k) i l)))

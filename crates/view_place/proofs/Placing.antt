@@ -3,9 +3,9 @@ use Rattle.laws.proofs.Prelude.{ℕ, _+_, _-_, _*_, _/_, _%_, _≤_, _<_, _≡_
 use Rattle.view.specs.declared.Numbers.{Numbers}
 use Rattle.view.specs.Limits.{offsetAllowed}
 use Rattle.view.specs.Types.{whole}
-use Rattle.view.specs.End.{endFrom}
+use Rattle.view.specs.Parts.{endFrom}
 use Rattle.view_place.specs.declared.Spot.{Spot}
-use Rattle.view_place.specs.Spots.{Tiled, OriginsLow, spotAt, placeOn, nextSpot, SpotValid, endAt, endOn}
+use Rattle.view_place.specs.Parts.{Tiled, OriginsLow, spotAt, placeOn, nextSpot, SpotValid, endAt, endOn}
 
 offset-small : (z : ℤ) → offsetAllowed z ≡ true → whole z ≤ 4294967295
 unfolding offsetAllowed whole

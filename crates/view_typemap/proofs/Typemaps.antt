@@ -3,8 +3,8 @@ use Rattle.laws.proofs.Prelude.{ℕ, _+_, _*_, _≤_, _≡_, refl, sym, ap, _�
 use Rattle.view.specs.declared.View.{View}
 use Rattle.view.specs.declared.Numbers.{Numbers}
 use Rattle.view.specs.Types.{paper, entries, widthAt, displacementAt}
-use Rattle.view.specs.Rules.{Valid}
-use Rattle.view.specs.Numbers.{viewWith}
+use Rattle.view.specs.Acceptance.{Valid}
+use Rattle.view.specs.Parts.{viewWith}
 use Rattle.view.proofs.Paper.{paper-entries, paper-file-entries, paper-width, paper-displacement, paper-file-width, paper-file-displacement}
 use Rattle.view.proofs.Accepted.{facts}
 use Rattle.view.proofs.Held.{some-entry, few-entries, record-entry, record-few}

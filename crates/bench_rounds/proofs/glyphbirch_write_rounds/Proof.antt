@@ -1,6 +1,6 @@
 -- `glyphbirch_write_rounds` makes one write in turn. The invariant: what stands is what the last of the rounds made leaves. Assumes nothing.
 use Rattle.laws.proofs.Prelude.{_-_, arith, w64, toZ}
-use Rattle.bench_rounds.specs.Rounds.{begun, writeAfter}
+use Rattle.bench_rounds.specs.Parts.{begun, writeAfter}
 use Rattle.bench_rounds.proofs.Making.{round, Made, making}
 use Rattle.bench_rounds.proofs.glyphbirch_write_rounds.Statement.{statement}
 use Rattle.bench_rounds.proofs.glyphbirch_write_rounds.Tie as tie

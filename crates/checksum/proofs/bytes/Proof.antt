@@ -1,6 +1,6 @@
 -- `bytes` takes the checksum number by number. Assumes nothing.
 use Rattle.laws.proofs.Prelude.{_-_, arith, length, nth}
-use Rattle.checksum.specs.Checksums.{listChecksum}
+use Rattle.checksum.specs.Parts.{listChecksum}
 use Rattle.checksum.proofs.Folding.{Folded, folding}
 use Rattle.checksum.proofs.bytes.Statement.{statement}
 use Rattle.checksum.proofs.bytes.Tie as tie

@@ -1,6 +1,6 @@
 -- `numbers` takes the checksum number by number. Assumes nothing.
 use Rattle.laws.proofs.Prelude.{_-_, length, nth}
-use Rattle.checksum.specs.Checksums.{listChecksum}
+use Rattle.checksum.specs.Parts.{listChecksum}
 use Rattle.checksum.proofs.Folding.{Folded, folding}
 use Rattle.checksum.proofs.numbers.Statement.{statement}
 use Rattle.checksum.proofs.numbers.Tie as tie

@@ -1,6 +1,6 @@
 -- `signed` takes the checksum number by number. Assumes nothing.
 use Rattle.laws.proofs.Prelude.{_-_, length, getD, pos}
-use Rattle.checksum.specs.Checksums.{code, signedChecksum}
+use Rattle.checksum.specs.Parts.{code, signedChecksum}
 use Rattle.checksum.proofs.Folding.{Folded, folding}
 use Rattle.checksum.proofs.Coding.{code-read}
 use Rattle.checksum.proofs.signed.Statement.{statement}

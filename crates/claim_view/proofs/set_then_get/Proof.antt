@@ -9,7 +9,7 @@ returns c =
     let gave = c .before .before .before .before .before .before in
     let made = gave .before .before .before .before .before .before in
     let start = made .before .before .before .before .before .before in
-    claim _ _ _ _ _ _ _ _ _ (start .fits .displacement) (start .fits .ex) (start .fits .fx) _ (made .set-view .ensures) _ _ _ _ _ _ _ _ _ (gave .get-view .ensures)
+    claim _ _ _ _ _ _ _ _ _ (start .fits .displacement) (start .fits .ex) (start .fits .fx) _ (made .set-view .ensures) _ _ _ (gave .get-view .ensures)
 
 pub set-then-get-spec : {M : Type 1} → statement M
 set-then-get-spec =

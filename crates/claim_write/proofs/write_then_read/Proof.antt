@@ -9,7 +9,7 @@ returns c =
     let read = c .before .before in
     let began = read .before .before in
     let made = began .before .before .before .before .before .before in
-    read-after _ _ _ _ _ _ _ _ (made .make .ensures) _ (read .read-at .ensures) (began .offset .ensures)
+    read-after _ _ _ _ _ _ _ _ (made .write .ensures) _ (read .read-at .ensures) (began .offset .ensures)
 
 pub write-then-read-spec : {M : Type 1} → statement M
 write-then-read-spec =

@@ -1,6 +1,6 @@
 -- `write_end` takes the greatest end of the last offsets, one for each instance at most; together they end where the write does. Assumes nothing.
 use Rattle.laws.proofs.Prelude.{_-_, needs}
-use Rattle.view.specs.Numbers.{viewWith}
+use Rattle.view.specs.Parts.{viewWith}
 use Rattle.move_read.proofs.Etypes.{entries-valid}
 use Rattle.move_read.proofs.Walking.{walk-fits, walk-held, lent-tiled, lent-valid, lent-step}
 use Rattle.move_end.proofs.Ending.{Ending, end-none, tail-few, from-fits, tail-fits, from-signed, from-allowed, ending-none, ending-fits, ending-more, ending-end}

@@ -1,6 +1,6 @@
 -- `gather` copies each etype that lies in the file and stops at the first that does not. Assumes nothing.
 use Rattle.laws.proofs.Prelude.{_-_, needs}
-use Rattle.view.specs.Numbers.{viewWith}
+use Rattle.view.specs.Parts.{viewWith}
 use Rattle.view.proofs.Etypes.{widths-valid}
 use Rattle.move_read.proofs.Etypes.{entries-valid}
 use Rattle.move_read.proofs.Gathering.{Gathering, move-none, gathering-none, gather-all, gather-end-fits, gather-stop, from-fits, from-inside, gather-lies, gather-more}

@@ -1,6 +1,6 @@
 -- `scatter` stores each etype's data at its place; the etype lies in the file, as the write's end does. Assumes nothing.
 use Rattle.laws.proofs.Prelude.{_-_, needs}
-use Rattle.view.specs.Numbers.{viewWith}
+use Rattle.view.specs.Parts.{viewWith}
 use Rattle.view.proofs.Etypes.{widths-valid}
 use Rattle.move_read.proofs.Etypes.{entries-valid}
 use Rattle.move_read.proofs.Walking.{walk-fits, walk-held, move-offset, last-fits, lent-tiled, lent-valid, lent-step}

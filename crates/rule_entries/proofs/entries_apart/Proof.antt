@@ -1,6 +1,6 @@
 -- `entries_apart` passes the entries in order and leaves at the first that ends past the next one's beginning. Assumes nothing.
 use Rattle.laws.proofs.Prelude.{_-_, needs, Passed, passed-fails, passed-holds, passed-more, passed-none}
-use Rattle.view.specs.Etypes.{EntriesValid}
+use Rattle.view.specs.Parts.{EntriesValid}
 use Rattle.rule_entries.specs.Parts.{apartAt}
 use Rattle.rule_entries.proofs.Fitting.{apart-false, apart-fits, apart-true}
 use Rattle.rule_entries.proofs.entries_apart.Statement.{statement}

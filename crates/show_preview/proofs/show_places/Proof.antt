@@ -1,6 +1,6 @@
 -- `show_places` calls nothing that its tests do not allow, and ends. Assumes nothing but what libc's functions say.
 use Prim.Native.Nat.{_-_, _≤_}
-use Rattle.view_place.specs.Spots.{Tiled, OriginsLow}
+use Rattle.view_place.specs.Parts.{Tiled, OriginsLow}
 use Rattle.show_preview.proofs.Showing.{showing}
 use Rattle.show_preview.proofs.show_places.Statement.{statement}
 use Rattle.show_preview.proofs.show_places.Tie as tie

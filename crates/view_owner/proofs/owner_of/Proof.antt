@@ -1,6 +1,6 @@
 -- `owner_of` tries instance after instance. The invariant: no instance before g has a pair of the byte. Assumes nothing.
 use Rattle.laws.proofs.Prelude.{_-_, arith}
-use Rattle.view.specs.Numbers.{viewWith}
+use Rattle.view.specs.Parts.{viewWith}
 use Rattle.view_owner.proofs.Firsts.{Missed, missed-none}
 use Rattle.view_owner.proofs.Whole.{ownerFrom, lookup-more, lookup-stop, origin-held, origin-scaled, begin-fits, instance-valid, lookup-end}
 use Rattle.view_owner.proofs.owner_of.Statement.{statement}

@@ -1,6 +1,6 @@
 -- `end_of` takes the greatest over the instances, which is end of file. The invariant: `end` is the greatest of the first i. Assumes nothing.
 use Rattle.laws.proofs.Prelude.{_-_, needs, Highest, highest-none, highest-more}
-use Rattle.view_place.specs.Spots.{endAt}
+use Rattle.view_place.specs.Parts.{endAt}
 use Rattle.view_place.proofs.Placing.{end-at, origin-below, origin-scaled, start-fits, end-signed, end-found}
 use Rattle.view_place.proofs.end_of.Statement.{statement}
 use Rattle.view_place.proofs.end_of.Tie as tie

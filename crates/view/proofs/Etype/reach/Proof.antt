@@ -1,6 +1,6 @@
 -- `reach` takes the greatest of the entries' ends. Assumes nothing.
 use Rattle.laws.proofs.Prelude.{_-_, needs, Highest, highest-more, highest-none}
-use Rattle.view.specs.Etypes.{entryEnd, EntriesValid}
+use Rattle.view.specs.Parts.{entryEnd, EntriesValid}
 use Rattle.view.proofs.Etypes.{end-fits, reach-is}
 use Rattle.view.proofs.Etype.reach.Statement.{statement}
 use Rattle.view.proofs.Etype.reach.Tie as tie

@@ -1,6 +1,6 @@
 -- `View::linear` is the default view: both sides compute to the same record. Assumes nothing.
 use Rattle.laws.proofs.Prelude.{refl, needs}
-use Rattle.view.specs.Types.{defaultView}
+use Rattle.view.specs.Parts.{defaultView}
 use Rattle.view.proofs.View.linear.Statement.{statement}
 use Rattle.view.proofs.View.linear.Tie as tie
 

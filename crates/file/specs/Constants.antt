@@ -1,0 +1,12 @@
+-- Must be believed. Document 01's numbers that a handle has a constant for: the modes, the limits of the pointer and of a file's length, the whences of a seek, and the refusal numbers.
+use mathlib.Core.List.{_∷_, []}
+use Rattle.view.specs.Limits.{offsetCount, maxFileLength}
+use Rattle.file.specs.declared.Constants.{Constants}
+
+unfoldable pub constantsOnPaper : Constants
+constantsOnPaper = record {
+  modes = 0 ∷ 1 ∷ 2 ∷ 3 ∷ [];
+  limits = offsetCount ∷ maxFileLength ∷ [];
+  whences = 0 ∷ 1 ∷ 2 ∷ [];
+  refusals = 1 ∷ 2 ∷ 3 ∷ 4 ∷ 5 ∷ 6 ∷ 7 ∷ 8 ∷ 9 ∷ 10 ∷ 11 ∷ 12 ∷ 13 ∷ 14 ∷ 15 ∷ 16 ∷ [];
+}
