@@ -6,7 +6,8 @@ use Rattle.view.specs.Types.{PaperView, paper, entries, viewOfLists}
 use Rattle.view.specs.Rules.{isNative}
 use Rattle.view.specs.Acceptance.{IsAccepted, viewRefusal, setRefusal, accepted}
 use Rattle.view.specs.Parts.{recordOf}
-use Rattle.view.proofs.Accepted.{accepted-is, accepted-only, built-is, built-only, count-some}
+use Rattle.view.proofs.Accepted.{built-is, built-only}
+use Rattle.view.proofs.Exactly.{accepted-is, accepted-only, count-some}
 use Rattle.view.proofs.Holding.{record-same}
 use Rattle.handle.specs.Handles.{handleValid}
 use Rattle.call_checks.specs.Refusals.{setViewRefusal}

@@ -84,6 +84,7 @@ pub record IsGot (v : PaperView) (before after : Typemaps) (r : GetViewAnswer) :
   pub filetype-widths : IsFilled (v .filetype .widths) (before .filetype-widths) (after .filetype-widths)
   pub filetype-displacements : IsFilled (v .filetype .displacements) (before .filetype-displacements) (after .filetype-displacements)
 
+-- a granted one gives the handle's view back; a refused one tells nothing and leaves the lists
 pub record ViewGot (h : Handle) (before after : Typemaps) (r : GetViewAnswer) : Type 0 where
   pub number : r .refusal ≡ getViewRefusal (onPaper h) (length (before .etype-widths)) (length (before .etype-displacements)) (length (before .filetype-widths)) (length (before .filetype-displacements))
   pub count : r .count ≡ 0

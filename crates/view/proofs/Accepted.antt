@@ -1,10 +1,10 @@
 -- What an accepted view keeps: the rules one by one, and the same as facts on numbers.
-use Rattle.laws.proofs.Prelude.{ℕ, _+_, _*_, _/_, _%_, _≤_, _<_, _≡_, refl, sym, ap, _∙_, Bool, true, false, not, ⊎-elim, arith, div-add-mod', le-of-mul-le-mul-right, mod-lt, eq-zero-or-pos, zero-mul, mul-mod-left, add-zero, getD, ℤ, pos, negsuc, lit<, leb-true, le-leb, eqb-true, eq-eqb, either, check-inv, check-zero, also-true, also-inv, either-inv, within-inv, not-both, all-at, all-intro, run-below, runs-below, run-div, run-mod}
+use Rattle.laws.proofs.Prelude.{ℕ, _+_, _*_, _/_, _%_, _≤_, _<_, _≡_, refl, sym, ap, _∙_, true, not, ⊎-elim, arith, div-add-mod', le-of-mul-le-mul-right, mod-lt, eq-zero-or-pos, zero-mul, mul-mod-left, add-zero, getD, ℤ, pos, negsuc, lit<, leb-true, le-leb, eqb-true, eq-eqb, either, check-inv, check-zero, also-true, also-inv, either-inv, within-inv, not-both, all-at, all-intro, run-below, runs-below, run-div, run-mod}
 use Rattle.view.specs.Limits.{widthAllowed, etypeEntriesAllowed, filetypeEntriesAllowed, entryDisplacementAllowed, extentAllowed, displacementAllowed}
 use Rattle.view.specs.Types.{PaperType, PaperView, entries, widthAt, displacementAt, extentOf, whole}
 use Rattle.view.specs.Rules.{paired, entryAllowed, entriesAllowed, typeOrdered, instances, origin, IsBuilt, viewHolesFit, apart}
 use Rattle.view.specs.Parts.{entryBuilt, built}
-use Rattle.view.specs.Acceptance.{IsAccepted, viewRefusal, accepted, Valid}
+use Rattle.view.specs.Acceptance.{viewRefusal, accepted, Valid}
 use Rattle.view.specs.Modes.{allowsWriting}
 
 -- ---- the rules one by one
@@ -215,41 +215,6 @@ module _ (v : PaperView) (some : 0 < entries (v .etype)) (b : IsBuilt v) where
   pub built-only : built v ≡ true
   unfolding built
   built-only = also-true (eq-eqb _ 0 (ap (λ (z : ℕ). z % entries (v .etype)) (sym (b .whole-groups)) ∙ mul-mod-left (b .groups) (entries (v .etype)))) (all-intro (entryBuilt v) (entries (v .filetype)) entry-shifted)
-
--- ---- the chain of checks accepts a view exactly if it keeps the limits and rules
-
-pub accepted-is : (mode : ℕ) (v : PaperView) → accepted mode v ≡ true → IsAccepted mode v
-accepted-is mode v h =
-    let r = rules mode v h in
-    record {
-      displacement = r .displacement;
-      counts = also-true (r .etype-paired) (also-true (r .filetype-paired) (also-true (r .etype-entries) (r .filetype-entries)));
-      extents = also-true (r .etype-extent) (r .filetype-extent);
-      entries = also-true (r .etype-allowed) (r .filetype-allowed);
-      ordered = also-true (r .etype-ordered) (r .filetype-ordered);
-      groups = built-is v (r .is-built);
-      holes = r .holes;
-      overlap = writing-apart mode v h;
-    }
-
--- overlap is asked where the mode allows writing, and there it holds
-overlap-tested : (writes free : Bool) → (writes ≡ true → free ≡ true) → either (not writes) free ≡ true
-unfolding either
-overlap-tested true free h = h refl
-overlap-tested false free h = refl
-
--- an etype whose count is allowed has entries
-pub count-some : (n : ℕ) → etypeEntriesAllowed n ≡ true → 0 < n
-unfolding etypeEntriesAllowed
-count-some n h = omega (arith, within-inv 1 8 n h .0)
-
-pub accepted-only : (mode : ℕ) (v : PaperView) → IsAccepted mode v → accepted mode v ≡ true
-unfolding accepted viewRefusal
-accepted-only mode v a =
-    let some = count-some (entries (v .etype)) (also-inv _ _ (also-inv _ _ (also-inv _ _ (a .counts) .1) .1) .0) in
-    eq-eqb _ 0
-    (check-zero 3 (a .displacement) (check-zero 4 (a .counts) (check-zero 5 (a .extents) (check-zero 6 (a .entries) (check-zero 7 (a .ordered)
-    (check-zero 8 (built-only v some (a .groups)) (check-zero 9 (a .holes) (check-zero 10 (overlap-tested (allowsWriting mode) (apart v) (a .overlap)) refl))))))))
 
 -- ---- the facts
 

@@ -1,5 +1,6 @@
 pub mod Paper
 pub mod Accepted
+pub mod Exactly
 pub mod Held
 pub mod Packing
 pub mod Injective
