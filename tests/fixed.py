@@ -1,15 +1,18 @@
-"""The fixed script: document 01's figures, its six errors, both ends of each limit in every call that tests it, the orders of checks.
+"""The fixed script: document 01's figures, its six errors, both ends of each limit in every call that tests it, the orders of checks,
+and the types and entries that refused sets name by document 02's order 1.
 
-Each row states a record with what document 01 says of its line; `faults` compares that with the model's lines.
+Each row states a record with what the two documents say of its line; `faults` compares that with the model's lines.
 """
 
 from dataclasses import dataclass, replace
 
+from entries import ETYPE, FILETYPE, MEGA, NAMED, changed, spread
 from model import Body, checksum, file_bytes, run
 from scripts import (ALL_ONES, LARGEST, LINE, SMALLEST, Request, Shape, decode, end, field, file_record, fill_up, forged, give_back,
-                     new_file, open_handle, place, read_at, read_here, record, reverse, seek, set_view, words, write_at, write_here)
+                     in_a_row, new_file, one_changed, open_handle, place, read_at, read_here, record, reverse, seek, set_view, words,
+                     write_at, write_here)
 
-MEGA = 1_048_576
+SET = 36  # the tag of a set
 BYTES = Shape((1,), (0,), 1, (0,), 1)  # the default view
 FIRST = words((4,), 12, 100)  # P1
 LOOSE = Shape((4, 1), (0, 4), 8, (0, 16), 24)  # P8
@@ -52,15 +55,18 @@ class Script:
         self.rows, self.section = [], ""
 
     def add(self, record, refusal=0, **expected):
-        self.rows.append(Row(self.section, record, {"refusal": refusal, **expected}))
+        """A row of a set states the type and the entry that it names, 0 and 0 unless they are given."""
+        named = {"a": 0, "b": 0} if record[0] == SET else {}
+        self.rows.append(Row(self.section, record, {"refusal": refusal, **named, **expected}))
 
     def open(self, slot, mode):
         self.add(open_handle(slot, mode), pointer=0, view=handle_sum(mode or 3, BYTES))
 
-    def set(self, slot, request, refusal=0, **expected):
+    def set(self, slot, request, refusal=0, kind=0, entry=0, **expected):
+        """A set that names this type and entry, if it is refused and names any."""
         if isinstance(request, Shape):
             request = request.request()
-        self.add(set_view(slot, request), refusal, **expected)
+        self.add(set_view(slot, request), refusal, a=kind, b=entry, **expected)
 
     def places(self, slot, expected):
         for offset, byte in enumerate(expected):
@@ -101,12 +107,17 @@ def p1_to_p3(s):
         s.add(read_at(0, 0, 0, 3, 16), count=moved, pointer=0)
 
 
+def for_writing(mode, entry):
+    """What a set of an overlap states in this mode: refusal 10 with the filetype's entry, and nothing for reading."""
+    return () if mode == 1 else (10, FILETYPE, entry)
+
+
 def p4_and_p5(s):
     s.section = "P4, P5"
     for mode in (1, 2, 3):
         s.open(0, mode)
-        s.set(0, words((2,), 12), 9)
-        s.set(0, words((0, 2), 6), 0 if mode == 1 else 10)
+        s.set(0, words((2,), 12), 9, FILETYPE, 0)
+        s.set(0, words((0, 2), 6), *for_writing(mode, 1))
         s.add(place(0, 1), a=2 if mode == 1 else 1)
 
 
@@ -114,7 +125,7 @@ def p6_and_p7(s):
     s.section = "P6, P7"
     for mode in (1, 2, 3):
         s.open(0, mode)
-        s.set(0, words((0, 4), 4), 0 if mode == 1 else 10)
+        s.set(0, words((0, 4), 4), *for_writing(mode, 1))
     s.open(1, 1)
     s.add(new_file(1, 64, 8, 3))
     s.set(1, words((0, 4), 4))
@@ -141,7 +152,7 @@ def p6_for_writing(s):
         s.add(write_here(0, 0, 4, 16), refusal, pointer=0)
         s.add(reverse(0, 4), refusal)
     s.open(0, 3)
-    s.set(0, shape, 10)
+    s.set(0, shape, 10, FILETYPE, 1)
     s.write(write_at(0, 0, 4, 4, 16), 4, 10, made(2, 24)[:4] + made(90, 4) + made(2, 24)[8:])  # the default view stays
 
 
@@ -199,9 +210,9 @@ def p11_and_p12(s):
     s.write(write_at(0, 0, 2**32, 0, 8), 0, 40, made(0, 40))
     s.add(write_at(0, 0, 2**32, 1, 8), 12)
     shape = Shape((1,), (0,), 1, (0, 3), 2)
-    for mode, refusal in [(1, 0), (2, 10), (3, 10)]:
+    for mode in (1, 2, 3):
         s.open(0, mode)
-        s.set(0, shape, refusal)
+        s.set(0, shape, *for_writing(mode, 1))
 
 
 # The six errors of document 01
@@ -220,7 +231,7 @@ def six_errors(s):
     s.set(0, words((4,), 12))
     s.add(read_at(0, 0, 2, 1, 4), count=0)  # a word that is half in the file
     s.add(seek(0, 0, 7, 0), pointer=7)
-    s.set(0, words((2,), 12), 9, pointer=7)  # the pointer after a refused set
+    s.set(0, words((2,), 12), 9, FILETYPE, 0, pointer=7)  # the pointer after a refused set
     s.add(seek(0, 0, 1, 1), pointer=8)
     s.set(0, LOOSE)
     s.add(read_at(0, 0, 0, 2, 10), count=2)  # S = 5, E = 8
@@ -245,7 +256,7 @@ def opens(s):
     s.add(read_at(3, 0, 3, 2, 2), count=2)
     s.add(write_at(3, 0, 3, 2, 2), count=2)
     s.owner(3, 7, (7, 0))
-    s.set(3, words((0, 2), 6), 10)
+    s.set(3, words((0, 2), 6), 10, FILETYPE, 1)
     for mode in (4, 5, 6, 7, 8, 2**32, 2**32 + 1, 2**32 + 3, 2**63, ALL_ONES):
         s.section = f"refused open, mode {mode}"
         s.add(open_handle(3, mode), 16, pointer=0, view=handle_sum(0, BYTES))
@@ -269,9 +280,10 @@ def mode_and_pointer(s, mode, pointer):
     s.add(seek(1, 0, pointer, 0), pointer=pointer)
 
 
-def refused_sets(s, requests, refusal):
+def refused_sets(s, requests, refusal, kind=0, entry=0):
+    """Sets that are refused with this number and all name this type and this entry."""
     for request in requests:
-        s.set(1, request, refusal, pointer=7)
+        s.set(1, request, refusal, kind, entry, pointer=7)
 
 
 def granted_sets(s, requests):
@@ -285,23 +297,18 @@ def bytewise(n, entries):
     return Request(0, extent, max(entries, 1), (1,) * n, tuple(range(n)), (1,) * entries, tuple(range(entries)))
 
 
-def one_changed(numbers, index, number):
-    """These numbers with another one at this index."""
-    return numbers[:index] + (number,) + numbers[index + 1:]
-
-
 def set_widths(s):
     s.section = "set: widths"
     mode_and_pointer(s, 3, 7)
     word = words((0,), 4).request()
-    refused_sets(s, [Shape((w,), (0,), 8, (0,), 8) for w in BAD_WIDTHS], 6)
-    refused_sets(s, [replace(word, etype_widths=(w,)) for w in BAD_WIDTHS], 6)
-    refused_sets(s, [replace(word, filetype_widths=(w,)) for w in BAD_WIDTHS], 6)
-    refused_sets(s, [replace(word, etype_widths=(w,)) for w in (1, 2, 8)], 8)
-    refused_sets(s, [replace(word, filetype_widths=(w,)) for w in (1, 2, 8)], 8)
-    refused_sets(s, [Shape((1, 2, 3), (0, 1, 3), 6, (0, 6), 12)], 6)
+    refused_sets(s, [Shape((w,), (0,), 8, (0,), 8) for w in BAD_WIDTHS], 6, ETYPE, 0)
+    refused_sets(s, [replace(word, etype_widths=(w,)) for w in BAD_WIDTHS], 6, ETYPE, 0)
+    refused_sets(s, [replace(word, filetype_widths=(w,)) for w in BAD_WIDTHS], 6, FILETYPE, 0)
+    refused_sets(s, [replace(word, etype_widths=(w,)) for w in (1, 2, 8)], 18, FILETYPE, 0)
+    refused_sets(s, [replace(word, filetype_widths=(w,)) for w in (1, 2, 8)], 18, FILETYPE, 0)
+    refused_sets(s, [Shape((1, 2, 3), (0, 1, 3), 6, (0, 6), 12)], 6, ETYPE, 2)
     for index in range(8):
-        refused_sets(s, [Shape(one_changed((8,) * 8, index, 6), tuple(range(0, 64, 8)), 64, (0,), 64)], 6)
+        refused_sets(s, [Shape(one_changed((8,) * 8, index, 6), tuple(range(0, 64, 8)), 64, (0,), 64)], 6, ETYPE, index)
     granted_sets(s, [Shape((w,), (0,), w, (0,), w) for w in GOOD_WIDTHS])
     granted_sets(s, [Shape((1, 2, 4, 8), (0, 1, 3, 7), 15, (0, 15), 30)])
 
@@ -313,7 +320,7 @@ def set_counts(s):
     refused += [(1, 65), (1, 128), (1, 256), (2, 129), (2, 130), (3, 193), (3, 195), (4, 257), (4, 260), (5, 257), (5, 260)]
     refused += [(6, 257), (6, 258), (7, 257), (7, 259), (8, 257), (8, 264), (8, 300)]
     refused_sets(s, [bytewise(n, entries) for n, entries in refused], 4)
-    refused_sets(s, [bytewise(n, entries) for n, entries in [(2, 127), (3, 191), (4, 255), (5, 256), (6, 256), (7, 256), (8, 255)]], 8)
+    refused_sets(s, [bytewise(n, entries) for n, entries in [(2, 127), (3, 191), (4, 255), (5, 256), (6, 256), (7, 256), (8, 255)]], 17)
     pairs = bytewise(2, 4)
     refused_sets(s, [replace(pairs, etype_widths=(1,)), replace(pairs, etype_displacements=(0,)),
                      replace(pairs, etype_widths=(1, 1, 1)), replace(pairs, filetype_widths=(1,) * 3),
@@ -328,13 +335,13 @@ def set_entry_displacements(s):
     mode_and_pointer(s, 3, 7)
     bad = [-1, -4, MEGA - 3, MEGA, LARGEST, LARGEST - 3, LARGEST - 4, SMALLEST]
     word, eight = words((0,), 4).request(), Shape((1,) * 8, tuple(range(8)), 8, (0, 8), 16).request()
-    refused_sets(s, [Shape((4,), (d,), 4, (0,), 4) for d in bad], 6)
-    refused_sets(s, [replace(word, filetype_displacements=(d,)) for d in bad], 6)
-    refused_sets(s, [replace(word, etype_displacements=(d,)) for d in bad], 6)
-    refused_sets(s, [Shape((w,), (MEGA - w + 1,), 8, (0,), 8) for w in (1, 2, 8)], 6)
-    refused_sets(s, [Shape((w,), (0,), 1, (MEGA - w + 1,), 8) for w in GOOD_WIDTHS], 6)
-    refused_sets(s, [replace(eight, etype_displacements=tuple(range(7)) + (MEGA,)),
-                     replace(eight, filetype_displacements=tuple(range(15)) + (MEGA,))], 6)
+    refused_sets(s, [Shape((4,), (d,), 4, (0,), 4) for d in bad], 6, ETYPE, 0)
+    refused_sets(s, [replace(word, filetype_displacements=(d,)) for d in bad], 6, FILETYPE, 0)
+    refused_sets(s, [replace(word, etype_displacements=(d,)) for d in bad], 6, ETYPE, 0)
+    refused_sets(s, [Shape((w,), (MEGA - w + 1,), 8, (0,), 8) for w in (1, 2, 8)], 6, ETYPE, 0)
+    refused_sets(s, [Shape((w,), (0,), 1, (MEGA - w + 1,), 8) for w in GOOD_WIDTHS], 6, FILETYPE, 0)
+    refused_sets(s, [replace(eight, etype_displacements=tuple(range(7)) + (MEGA,))], 6, ETYPE, 7)
+    refused_sets(s, [replace(eight, filetype_displacements=tuple(range(15)) + (MEGA,))], 6, FILETYPE, 15)
     granted_sets(s, [Shape((w,), (MEGA - w,), w, (0,), w) for w in GOOD_WIDTHS])
     granted_sets(s, [Shape((w,), (0,), w, (MEGA - w,), w) for w in GOOD_WIDTHS])
     granted_sets(s, [Shape((4,), (MEGA - 12,), 4, (0, 8), 12)])
@@ -370,11 +377,12 @@ def set_order(s):
     s.section = "set: ordered"
     for mode in (3, 1):
         mode_and_pointer(s, mode, 7)
-        refused_sets(s, [Shape((4, 4), (4, 0), 8, (0,), 8), Shape((4, 4), (0, 8), 4, (0, 4), 16), words((4, 0), 8),
-                         words((0, 8, 7), 12)], 7)
-        refused_sets(s, [Request(0, 8, 8, (4, 4), (4, 0), (4, 4), (0, 4)), Request(0, 4, 4, (4, 4), (1, 0), (4,), (0,)),
-                         Request(0, 3, 3, (1,) * 3, (0, 2, 1), (1,) * 3, (0, 1, 2)),
-                         Request(0, 8, 8, (1,) * 8, (0, 1, 2, 3, 4, 5, 7, 6), (1,) * 8, tuple(range(8)))], 7)  # only the etype's
+        refused_sets(s, [Shape((4, 4), (4, 0), 8, (0,), 8)], 7, ETYPE, 1)  # both
+        refused_sets(s, [words((4, 0), 8)], 7, FILETYPE, 1)
+        refused_sets(s, [Shape((4, 4), (0, 8), 4, (0, 4), 16), words((0, 8, 7), 12)], 7, FILETYPE, 2)
+        refused_sets(s, [Request(0, 8, 8, (4, 4), (4, 0), (4, 4), (0, 4)), Request(0, 4, 4, (4, 4), (1, 0), (4,), (0,))], 7, ETYPE, 1)
+        refused_sets(s, [Request(0, 3, 3, (1,) * 3, (0, 2, 1), (1,) * 3, (0, 1, 2))], 7, ETYPE, 2)
+        refused_sets(s, [Request(0, 8, 8, (1,) * 8, (0, 1, 2, 3, 4, 5, 7, 6), (1,) * 8, tuple(range(8)))], 7, ETYPE, 7)
     granted_sets(s, [Shape((4, 2), (3, 3), 4, (0, 0), 4), words((4, 4, 8), 12)])
     s.add(read_at(1, 0, 0, 3, 12), count=3)
 
@@ -383,21 +391,24 @@ def set_built(s):
     s.section = "set: built of the etype"
     mode_and_pointer(s, 1, 7)
     good = Shape((4, 2), (0, 4), 6, (0, 6), 12).request()
-    refused_sets(s, [replace(good, filetype_displacements=d) for d in [(0, 4, 6, 11), (0, 5, 6, 10), (0, 4, 6, 9)]], 8)
-    refused_sets(s, [replace(good, filetype_widths=w) for w in [(4, 2, 2, 4), (2, 2, 4, 2), (4, 2, 4, 1)]], 8)
-    refused_sets(s, [replace(good, filetype_widths=(4, 2, 4), filetype_displacements=(0, 4, 6))], 8)
-    refused_sets(s, [replace(words((0,), 4).request(), etype_displacements=(4,))], 8)
-    refused_sets(s, [Request(0, 4, 16, (4, 4), (0, 8), (4,) * 4, (0, 4, 8, 12))], 8)
-    refused_sets(s, [Request(0, 4, 4, (4,), (4,), (4, 4), (3, 4))], 8)
+    refused_sets(s, [replace(good, filetype_displacements=d) for d in [(0, 4, 6, 11), (0, 4, 6, 9)]], 18, FILETYPE, 3)
+    refused_sets(s, [replace(good, filetype_displacements=(0, 5, 6, 10))], 18, FILETYPE, 1)
+    for entry, widths in [(2, (4, 2, 2, 4)), (0, (2, 2, 4, 2)), (3, (4, 2, 4, 1))]:
+        refused_sets(s, [replace(good, filetype_widths=widths)], 18, FILETYPE, entry)
+    refused_sets(s, [replace(good, filetype_widths=(4, 2, 4), filetype_displacements=(0, 4, 6))], 17)
+    refused_sets(s, [replace(words((0,), 4).request(), etype_displacements=(4,))], 19, FILETYPE, 0)
+    refused_sets(s, [Request(0, 4, 16, (4, 4), (0, 8), (4,) * 4, (0, 4, 8, 12))], 18, FILETYPE, 1)
+    refused_sets(s, [Request(0, 4, 4, (4,), (4,), (4, 4), (3, 4))], 19, FILETYPE, 0)
     granted_sets(s, [good, replace(good, filetype_displacements=(0, 4, 4, 8), filetype_extent=10), Shape((4,), (3,), 4, (0, 8), 12)])
 
 
 def set_holes(s):
     s.section = "set: holes"
     mode_and_pointer(s, 1, 7)
-    refused_sets(s, [words((p,), 12) for p in (1, 3, 5)], 9)
-    refused_sets(s, [words((0, p), 12) for p in (5, 7)] + [words((0, 4), f) for f in (9, 11, 13)], 9)
-    refused_sets(s, [Shape((8,), (0,), 6, (0, 8), 14), Shape((4,), (3,), 8, (1,), 8), words((0, 2, 7), 12)], 9)
+    refused_sets(s, [words((p,), 12) for p in (1, 3, 5)] + [Shape((4,), (3,), 8, (1,), 8)], 9, FILETYPE, 0)
+    refused_sets(s, [words((0, p), 12) for p in (5, 7)] + [words((0, 4), f) for f in (9, 11, 13)], 9, FILETYPE, 1)
+    refused_sets(s, [Shape((8,), (0,), 6, (0, 8), 14)], 9, FILETYPE, 1)
+    refused_sets(s, [words((0, 2, 7), 12)], 9, FILETYPE, 2)
     granted_sets(s, [words((0, 4), f) for f in (1, 7, 8, 12)])
     granted_sets(s, [Shape((4,), (3,), 8, (0,), 8), words((4,), 4), words((8,), 12), words((0, 1, 3), 7), words((0, 8), 16),
                      Shape((8,), (0,), 6, (0, 6, 18), 30)])
@@ -405,17 +416,18 @@ def set_holes(s):
 
 def set_overlaps(s):
     s.section = "set: overlap"
-    bad = [words((0, 3), 7), words((4, 4), 8), words((0, 4), 7), words((4, 8), 7), words((0,), 3), words((4,), 1),
-           Shape((4, 4), (0, 3), 8, (0,), 8), Shape((4, 1), (0, 4), 4, (0, 4), 12), Shape((8,), (0,), 4, (0, 4), 12)]
+    bad = [(words((0, 3), 7), 1), (words((4, 4), 8), 1), (words((0, 4), 7), 1), (words((4, 8), 7), 1), (words((0,), 3), 0),
+           (words((4,), 1), 0), (Shape((4, 4), (0, 3), 8, (0,), 8), 1), (Shape((4, 1), (0, 4), 4, (0, 4), 12), 2),
+           (Shape((8,), (0,), 4, (0, 4), 12), 1)]  # each with the entry that it names
     good = [words((4,), 4), words((4, 8), 8), words((0, 4), 8), Shape((4, 1), (2, 6), 5, (0, 5), 10),
             Shape((2, 2), (0, 2), 2, (0, 4), 8), Shape((1,), (7,), 9, (0,), 1)]
-    mode_and_pointer(s, 2, 7)
-    refused_sets(s, bad[:4], 10)
-    mode_and_pointer(s, 3, 7)
-    refused_sets(s, bad, 10)
+    for mode in (2, 3):
+        mode_and_pointer(s, mode, 7)
+        for shape, entry in bad:
+            refused_sets(s, [shape], 10, FILETYPE, entry)
     granted_sets(s, good)
     mode_and_pointer(s, 1, 7)
-    granted_sets(s, bad)
+    granted_sets(s, [shape for shape, _ in bad])
 
 
 def set_limits(s):
@@ -437,20 +449,40 @@ def set_pairs(s):
     s.set(1, replace(word, etype_widths=(4, 4), filetype_extent=0), 4, pointer=7)
     s.set(1, replace(word, filetype_extent=0, etype_widths=(3,)), 5, pointer=7)
     s.set(1, replace(word, etype_extent=0, filetype_displacements=(-1,)), 5, pointer=7)
-    s.set(1, replace(unordered, filetype_widths=(4, 3)), 6, pointer=7)
-    s.set(1, replace(unordered, filetype_displacements=(0, MEGA)), 6, pointer=7)
-    s.set(1, replace(unordered, filetype_widths=(4, 4)), 7, pointer=7)
-    s.set(1, Request(0, 4, 8, (4,), (0,), (4, 2), (4, 0)), 7, pointer=7)
-    s.set(1, Request(0, 4, 12, (4,), (0,), (4, 2), (2, 6)), 8, pointer=7)
-    s.set(1, Request(0, 4, 4, (4,), (0,), (4, 2), (0, 2)), 8, pointer=7)
-    s.set(1, words((0, 2), 12), 9, pointer=7)
-    s.set(1, words((2,), 1), 9, pointer=7)
-    s.set(1, words((4, 0), 4), 7, pointer=7)
+    s.set(1, replace(unordered, filetype_widths=(4, 3)), 6, FILETYPE, 1, pointer=7)
+    s.set(1, replace(unordered, filetype_displacements=(0, MEGA)), 6, FILETYPE, 1, pointer=7)
+    s.set(1, replace(unordered, filetype_widths=(4, 4)), 7, ETYPE, 1, pointer=7)
+    s.set(1, Request(0, 4, 8, (4,), (0,), (4, 2), (4, 0)), 7, FILETYPE, 1, pointer=7)
+    s.set(1, Request(0, 4, 12, (4,), (0,), (4, 2), (2, 6)), 18, FILETYPE, 1, pointer=7)
+    s.set(1, Request(0, 4, 4, (4,), (0,), (4, 2), (0, 2)), 18, FILETYPE, 1, pointer=7)
+    s.set(1, words((0, 2), 12), 9, FILETYPE, 1, pointer=7)
+    s.set(1, words((2,), 1), 9, FILETYPE, 0, pointer=7)
+    s.set(1, words((4, 0), 4), 7, FILETYPE, 1, pointer=7)
     everything = Request(-1, 0, 0, (3,), (-1, 0), (), (5, 2), b"")
     s.set(1, everything, 2, pointer=7)
     s.add(forged(1, 4, 7, words((0,), 4)))
     s.set(1, everything, 1, pointer=7)
     s.set(1, replace(word, representation=b"nativ"), 1, pointer=7)
+
+
+# Which type and entry a refused set names
+
+def which_entry(s):
+    """Then what names none: 2 to 5 with faults of entries behind them, and a set that is granted after refused ones."""
+    for number, named, modes in NAMED:
+        for mode in modes:
+            s.section = f"set: which entry, {number}, mode {mode}"
+            mode_and_pointer(s, mode, 7)
+            for request, refusal, kind, entry in named():
+                s.set(1, request, refusal, kind, entry, pointer=7)
+    s.section = "set: which entry, none"
+    bad = changed(spread(2, 3).request(), etype_widths={1: 3}, filetype_widths={4: 3}, filetype_displacements={5: 1})
+    rows = [(2, {"representation": b"nativE"}), (3, {"displacement": -1}), (4, {"etype_widths": (3, 3, 3)}), (4, {"filetype_widths": (3,)}),
+            (4, {"filetype_displacements": (5, 4)}), (5, {"etype_extent": 0}), (5, {"filetype_extent": 0})]
+    for refusal, fields in rows:
+        s.set(1, replace(bad, **fields), refusal, pointer=7)
+    s.set(1, bad, 6, ETYPE, 1, pointer=7)
+    s.set(1, spread(2, 3), pointer=0)
 
 
 def set_does_not_look_at_the_file(s):
@@ -487,11 +519,6 @@ def every_call(s, slot, file, refusal=0, access=(0,) * 5, count=1):
 
 NEXT_FAR = (0, 0, 0, 14, 0)  # the etype at offset 0 lies in the file, that at offset 1 does not
 ALL_FAR = (0, 0, 14, 14, 0)
-
-
-def in_a_row(n, instances):
-    """This many instances of an etype of n bytes, each right after the one before."""
-    return Shape((1,) * n, tuple(range(n)), n, tuple(range(0, n * instances, n)), n * instances)
 
 
 def granted_forgeries():
@@ -596,7 +623,7 @@ def garbage(s):
     s.section = "unused places and overlap"
     s.add(forged(2, 3, 0, words((0, 4), 8), fill=2))
     s.add(place(2, 3), a=12)
-    s.set(2, words((0, 4), 7), 10)
+    s.set(2, words((0, 4), 7), 10, FILETYPE, 1)
     s.add(give_back(2, (1, 1, 2, 2)), a=0, b=1, c=4, d=2, e=8)
 
 
@@ -796,18 +823,19 @@ def read_sizes(s):
 
 
 def reaching_etypes():
-    """Views from byte 5 on whose etype has an earlier entry that reaches past the last: the begins, and the bytes from a begin on."""
+    """Views from byte 5 on whose etype has an earlier entry that reaches past the last: the begins, the bytes from a begin on, and the
+    entry that a set for writing names: the later one of the first two that overlap."""
     long_first = [0, 1, 2, 3, 4, 5, 6, 7, 2]
-    yield "widths 8, 1 at 0, 2", Shape((8, 1), (0, 2), 8, (0, 8), 16, 5), (5, 13, 21, 29), long_first
-    yield "widths 8, 1 at 0, 2, E = 3", Shape((8, 1), (0, 2), 3, (0, 3), 6, 5), (5, 8, 11, 14), long_first
-    yield "widths 1, 4, 2 at 1, 2, 2", Shape((1, 4, 2), (1, 2, 2), 6, (0, 6), 18, 5), (5, 11, 23, 29), [1, 2, 3, 4, 5, 2, 3]
+    yield "widths 8, 1 at 0, 2", Shape((8, 1), (0, 2), 8, (0, 8), 16, 5), (5, 13, 21, 29), long_first, 1
+    yield "widths 8, 1 at 0, 2, E = 3", Shape((8, 1), (0, 2), 3, (0, 3), 6, 5), (5, 8, 11, 14), long_first, 1
+    yield "widths 1, 4, 2 at 1, 2, 2", Shape((1, 4, 2), (1, 2, 2), 6, (0, 6), 18, 5), (5, 11, 23, 29), [1, 2, 3, 4, 5, 2, 3], 2
 
 
 def reads_past_the_last_entry(s):
     """Such an etype is in the file where all its bytes are; the sizes lie on both sides of that and of the last entry's end. It can be set
     for reading only."""
     content = made(30, 60)
-    for name, shape, begins, data in reaching_etypes():
+    for name, shape, begins, data, overlap in reaching_etypes():
         for forgery in (False, True):
             s.section = f"read: {name}, {'forged' if forgery else 'set'}"
             s.add(new_file(0, 60, 60, 30))
@@ -830,7 +858,7 @@ def reads_past_the_last_entry(s):
                 s.add(seek(0, 0, 0, 0), pointer=0)
         for mode in (2, 3):
             s.open(0, mode)
-            s.set(0, shape, 10)
+            s.set(0, shape, 10, FILETYPE, overlap)
             s.add(forged(0, mode, 0, shape))
             every_call(s, 0, 0, 1)
 
@@ -1143,7 +1171,7 @@ def giving_back(s):
     s.add(give_back(3, (1, 1, 1, 1)), a=0, b=1, c=1, d=1, e=1)
     s.set(3, LOOSE)
     s.add(give_back(3, (2, 2, 4, 4)), a=0, b=2, c=8, d=4, e=24)
-    s.set(3, words((2,), 12), 9)
+    s.set(3, words((2,), 12), 9, FILETYPE, 0)
     s.add(give_back(3, (3, 3, 5, 5), 6), a=0, b=2, c=8, d=4, e=24)
     s.add(give_back(3, (0, 0, 0, 0)), 13)
 
@@ -1251,8 +1279,8 @@ def bodies(s):
 
 
 SECTIONS = (p1_to_p3, p4_and_p5, p6_and_p7, p6_for_writing, p8, p9, p10, p11_and_p12, six_errors, opens, set_limits, set_pairs,
-            set_does_not_look_at_the_file, files_that_break_limits, files_at_the_limits, forged_granted, forged_refused, garbage,
-            place_offsets, the_largest_views, offsets_at_the_limits, ends_of_file, seeks, reads_at_an_offset, read_sizes,
+            which_entry, set_does_not_look_at_the_file, files_that_break_limits, files_at_the_limits, forged_granted, forged_refused,
+            garbage, place_offsets, the_largest_views, offsets_at_the_limits, ends_of_file, seeks, reads_at_an_offset, read_sizes,
             reads_past_the_last_entry, reads_at_the_pointer, two_handles_on_one_file, writes_at_an_offset, write_growth, write_long_gap,
             write_gaps, write_lengths, write_orders, two_writes, writes_at_the_pointer, writes_by_mode, writes_by_one_handle,
             lookups_of_every_byte, lookups_at_the_limits, giving_back, write_pairs, pairs, bodies)
@@ -1270,6 +1298,7 @@ def script():
     return b"".join(row.record for row in rows()) + CUT
 
 
+OTHERS = ("count", "a", "b", "c", "d", "e")
 FILES = ("size0", "sum0", "size1", "sum1")
 NO_FILES = {"size0": 0, "sum0": checksum(b""), "size1": 0, "sum1": checksum(b"")}
 REFUSED_OPEN = {"pointer": 0, "view": handle_sum(0, BYTES)}  # what each slot has at first
@@ -1278,15 +1307,16 @@ REFUSED_OPEN = {"pointer": 0, "view": handle_sum(0, BYTES)}  # what each slot ha
 def stays(before, handle, numbers):
     """What a line must have whatever its row states; `before` is the line before, `handle` what the slot has.
 
-    A refusal has no other number and leaves the handle. Only a granted write changes a file, only open and a granted set the mode and the
-    view, and only these, seeks and the accesses at the pointer the pointer."""
+    A refusal has no other number and leaves the handle; a set, granted or refused, has none but the type and the entry, a and b, which
+    its row states. Only a granted write changes a file, only open and a granted set the mode and the view, and only these, seeks and the
+    accesses at the pointer the pointer."""
     tag, refused = numbers["tag"], numbers["refusal"] != 0
-    kept = {name: 0 for name in ("count", "a", "b", "c", "d", "e")} if refused else {}
+    kept = {name: 0 for name in OTHERS if tag != SET or name not in ("a", "b")} if refused or tag == SET else {}
     if tag not in (32, 33) and (refused or tag not in (43, 44)):
         kept |= {name: before[name] for name in FILES}
-    if tag > 35 and (refused or tag != 36):
+    if tag > 35 and (refused or tag != SET):
         kept["view"] = handle["view"]
-    if tag > 35 and (refused or tag not in (36, 40, 42, 44)):
+    if tag > 35 and (refused or tag not in (SET, 40, 42, 44)):
         kept["pointer"] = handle["pointer"]
     return kept
 

@@ -13,7 +13,9 @@ from scripts import (ALL_ONES, LARGEST, SMALLEST, Shape, end, field, file_record
 
 MEGA = 1_048_576
 RECORDS = (480, 620)
-DAMAGES = (2, 3, 4, 5, 6, 7, 8, 9, 9, 10, 10)  # the refusals that a damaged set aims at
+DAMAGES = (2, 3, 4, 5, 6, 6, 7, 7, 9, 9, 9, 10, 10, 10, 17, 18, 18, 19)  # the refusals that a damaged set aims at
+ETYPE_ENTRIES, MANY_ENTRIES = (1, 1, 1, 2, 2, 2, 3, 3, 4, 5, 8), (3, 4, 5, 8)
+ONE_OR_BOTH = (("etype",), ("filetype",), ("filetype",), ("etype", "filetype"))  # the types that a damage breaks
 BAD_WIDTHS = (0, 3, 5, 6, 7, 9, 16, 2**32 + 1, ALL_ONES)
 BAD_EXTENTS = (0, -1, MEGA + 1, LARGEST, SMALLEST)
 BAD_REPRESENTATIONS = tuple(bad_names())
@@ -25,8 +27,8 @@ class Shapes:
     def __init__(self, rng):
         self.rng = rng
 
-    def etype(self, writing):
-        n = self.rng.choice((1, 1, 1, 2, 2, 2, 3, 3, 4, 5, 8))
+    def etype(self, writing, entries):
+        n = self.rng.choice(entries)
         displacement, widths, displacements = self.rng.choice((0, 0, 0, 0, 1, 2, 3, 8)), [], []
         for _ in range(n):
             width = self.rng.choice((1, 2, 4, 8))
@@ -59,8 +61,9 @@ class Shapes:
         extents = [f for f in extents if f >= least and (f <= whole or (f - whole) % extent == 0)]
         return self.rng.choice(extents) if extents else whole + -(-(least - whole) // extent) * extent
 
-    def shape(self, writing):
-        widths, displacements = self.etype(writing)
+    def shape(self, writing, entries=ETYPE_ENTRIES):
+        """A view whose etype has one of these numbers of entries."""
+        widths, displacements = self.etype(writing, entries)
         extent = self.etype_extent(widths, displacements)
         span = displacements[-1] + (widths[-1] if writing else 0) - displacements[0]
         origins = self.origins(span, extent, len(widths))
@@ -108,53 +111,118 @@ class Damage:
     def refusal_5(self, request):
         return replace(request, **{self.rng.choice(("etype_extent", "filetype_extent")): self.rng.choice(BAD_EXTENTS)})
 
+    def entry(self, numbers, first=0):
+        """An entry of this list, from this one on: often the first or the last."""
+        last = max(len(numbers) - 1, first)
+        inner = self.rng.randint(first, last)
+        return self.rng.choice((first, last, inner, inner))
+
     def refusal_6(self, request):
-        kind, index = self.rng.choice(("etype", "filetype")), self.rng.randrange(256)
-        if self.rng.random() < 0.5:
-            return self.change(request, f"{kind}_widths", index, self.rng.choice(BAD_WIDTHS))
+        for kind in self.rng.choice(ONE_OR_BOTH):
+            request = self.bad_entry(request, kind)
+        return request
+
+    def bad_entry(self, request, kind):
+        """A width or a displacement that is not allowed; sometimes a displacement, and a width in a later entry."""
         widths = getattr(request, f"{kind}_widths") or (1,)
-        width = widths[index % len(widths)]
-        bad = (-1, MEGA - width + 1, MEGA, LARGEST, LARGEST - width + 1, SMALLEST)
-        return self.change(request, f"{kind}_displacements", index, self.rng.choice(bad))
+        entry, part = self.entry(widths), self.rng.random()
+        if part < 0.4:
+            return self.change(request, f"{kind}_widths", entry, self.rng.choice(BAD_WIDTHS))
+        bad = (-1, MEGA - widths[entry] + 1, MEGA, LARGEST, LARGEST - widths[entry] + 1, SMALLEST)
+        request = self.change(request, f"{kind}_displacements", entry, self.rng.choice(bad))
+        if part < 0.8 or entry + 1 >= len(widths):
+            return request
+        return self.change(request, f"{kind}_widths", self.entry(widths, entry + 1), self.rng.choice(BAD_WIDTHS))
 
     def refusal_7(self, request):
-        name = self.rng.choice(("etype_displacements", "filetype_displacements", "filetype_displacements"))
+        for kind in self.rng.choice(ONE_OR_BOTH):
+            for _ in range(self.rng.choice((1, 1, 1, 2))):
+                request = self.unordered(request, f"{kind}_displacements")
+        return request
+
+    def unordered(self, request, name):
+        """An entry that begins one byte before the one before it: it moves down, or that one up."""
         numbers = getattr(request, name)
         if len(numbers) < 2:
-            name, numbers = "filetype_displacements", request.filetype_displacements
-        index = self.rng.randrange(1, max(len(numbers), 2))
-        before = numbers[index - 1] if len(numbers) > 1 else 0
-        return self.change(request, name, index, max(0, before - 1))
-
-    def refusal_8(self, request):
-        index, kind = self.rng.randrange(256), self.rng.choice(("width", "shift", "drop", "etype"))
-        if kind == "width":
-            return self.change(request, "filetype_widths", index, self.rng.choice((1, 2, 4, 8)))
-        if kind == "shift":
-            numbers = request.filetype_displacements or (0,)
-            return self.change(request, "filetype_displacements", index, numbers[index % len(numbers)] + 1)
-        if kind == "drop":
-            return replace(request, filetype_widths=request.filetype_widths[:-1],
-                           filetype_displacements=request.filetype_displacements[:-1])
-        return replace(request, etype_displacements=tuple(d + 1 for d in request.etype_displacements))
+            return request
+        entry = self.entry(numbers, 1)
+        if numbers[entry - 1] > 0 and self.rng.random() < 0.5:
+            return self.change(request, name, entry, numbers[entry - 1] - 1)
+        return self.change(request, name, entry - 1, min(numbers[entry], MEGA) + 1)
 
     def refusal_9(self, request):
-        if self.rng.random() < 0.4:
-            return replace(request, filetype_extent=request.filetype_extent + self.rng.choice((1, request.etype_extent - 1)))
-        n = max(len(request.etype_widths), 1)
-        groups = max(len(request.filetype_displacements) // n, 1)
-        first = n * self.rng.randrange(groups)  # this group and the later ones move
-        numbers = request.filetype_displacements
-        return replace(request, filetype_displacements=numbers[:first] + tuple(d + 1 for d in numbers[first:]))
+        """The tile's end, or a group and all later ones, move by a byte or nearly an extent."""
+        n, numbers = max(len(request.etype_widths), 1), request.filetype_displacements
+        by = self.rng.choice((1, 1, max(request.etype_extent, 2) - 1))
+        if self.rng.random() < 0.35 and len(numbers) >= n and request.etype_displacements:
+            end = numbers[-n] - request.etype_displacements[0] + request.etype_extent
+            return replace(request, filetype_extent=max(end, request.filetype_extent) + by)
+        first = n * self.entry(numbers[::n])
+        return replace(request, filetype_displacements=numbers[:first] + tuple(d + by for d in numbers[first:]))
 
     def refusal_10(self, request):
-        if self.rng.random() < 0.6:
-            numbers, widths = request.filetype_displacements or (0,), request.filetype_widths or (1,)
-            span = numbers[-1] + widths[-1] - numbers[0]
-            return replace(request, filetype_extent=max(1, span - 1))
-        n = max(len(request.etype_widths), 1)
-        numbers = request.filetype_displacements
-        return replace(request, filetype_displacements=numbers[:n] + tuple(max(0, d - 1) for d in numbers[n:]))
+        return self.rng.choice((self.near_tiles, self.near_groups, self.near_groups, self.near_entries))(request)
+
+    def near_tiles(self, request):
+        numbers, widths = request.filetype_displacements or (0,), request.filetype_widths or (1,)
+        span = numbers[-1] + widths[-1] - numbers[0]
+        return replace(request, filetype_extent=max(1, span - self.rng.choice((1, 1, 2, span))))
+
+    def near_groups(self, request):
+        """A group begins before the one before it ends; it and all later ones move."""
+        n, numbers = max(len(request.etype_widths), 1), request.filetype_displacements
+        first = n * self.entry(numbers[::n], 1)
+        if not n <= first < min(len(numbers), len(request.filetype_widths)):
+            return request
+        by = numbers[first] - numbers[first - 1] - request.filetype_widths[first - 1] + 1
+        return replace(request, filetype_displacements=numbers[:first] + tuple(max(0, d - by) for d in numbers[first:]))
+
+    def near_entries(self, request):
+        """An entry of the etype begins before the one before it ends, and so it is in each group."""
+        etype, n = request.etype_displacements, len(request.etype_widths)
+        if n < 2 or len(etype) != n:
+            return request
+        first = self.entry(etype, 1)
+        by = etype[first] - etype[first - 1] - request.etype_widths[first - 1] + 1
+        return replace(request, etype_displacements=etype[:first] + tuple(max(0, d - by) for d in etype[first:]),
+                       filetype_displacements=tuple(max(0, d - by) if i % n >= first else d
+                                                    for i, d in enumerate(request.filetype_displacements)))
+
+    def refusal_17(self, request):
+        """The last group is not whole. An etype of one entry gets another one at the same place."""
+        n, numbers = len(request.etype_widths), request.filetype_displacements
+        if n == 1:
+            request = replace(request, etype_widths=request.etype_widths * 2, etype_displacements=request.etype_displacements * 2)
+        left = max(1, len(numbers) - self.rng.randint(1, max(n - 1, 1)))
+        return replace(request, filetype_widths=request.filetype_widths[:left], filetype_displacements=numbers[:left])
+
+    def refusal_18(self, request):
+        part = self.rng.random()
+        if part < 0.1:
+            return replace(request, etype_widths=tuple(self.rng.choice((1, 2, 4, 8)) for _ in request.etype_widths))
+        request = self.differing(request, 0, len(request.filetype_widths))
+        return self.differing(request, 0, len(request.filetype_widths)) if part < 0.3 else request
+
+    def differing(self, request, first, stop):
+        """An entry of the filetype, from the first to before the stop, gets another width or moves up by a byte."""
+        numbers = request.filetype_displacements[:stop]
+        if first >= len(numbers) or stop > len(request.filetype_widths):
+            return request
+        entry = self.entry(numbers, first)
+        if self.rng.random() < 0.5:
+            widths = [width for width in (1, 2, 4, 8) if width != request.filetype_widths[entry]]
+            return self.change(request, "filetype_widths", entry, self.rng.choice(widths))
+        return self.change(request, "filetype_displacements", entry, numbers[entry] + 1)
+
+    def refusal_19(self, request):
+        """The etype moves up past the filetype's first entry; sometimes an entry of the first group differs too, or a later one."""
+        n, etype, filetype = len(request.etype_widths), request.etype_displacements or (0,), request.filetype_displacements or (0,)
+        by = max(0, filetype[0] - etype[0]) + self.rng.choice((1, 1, 2, 9))
+        request = replace(request, etype_displacements=tuple(d + by for d in request.etype_displacements))
+        part = self.rng.random()
+        if part < 0.3:
+            return self.differing(request, 0, n)
+        return self.differing(request, n, len(filetype)) if part < 0.6 else request
 
 
 class Forgery:
@@ -237,16 +305,17 @@ class Generator:
         self.emit(open_handle(slot, 0))
         self.emit(read_at(slot, 0, 0, 2, 2))
 
-    def shape(self, mode):
-        return self.shapes.shape(writing=mode in (2, 3) or self.chance(0.3))
+    def shape(self, mode, entries=ETYPE_ENTRIES):
+        return self.shapes.shape(mode in (2, 3) or self.chance(0.3), entries)
 
     def set(self, slot):
-        """A sound set half of the time; else one with a fault, or with two."""
-        request = self.shape(self.driver.slots[slot].mode).request()
+        """A sound set half of the time; else one with a fault, or with two, of one rule or of any."""
         if self.chance(0.5):
-            request = self.damage.damaged(request, self.rng.choice(DAMAGES))
-            if self.chance(0.25):
-                request = self.damage.damaged(request, self.rng.choice(DAMAGES))
+            return self.sound_set(slot)
+        entries, number = self.rng.choice((ETYPE_ENTRIES, MANY_ENTRIES)), self.rng.choice(DAMAGES)
+        request = self.damage.damaged(self.shape(self.driver.slots[slot].mode, entries).request(), number)
+        if self.chance(0.35):
+            request = self.damage.damaged(request, self.rng.choice((number, self.rng.choice(DAMAGES))))
         self.emit(set_view(slot, request))
 
     def sound_set(self, slot):

@@ -1,7 +1,7 @@
-"""The second program: document 01's rules in plain Python, and the lines that docs/conformance.md asks for.
+"""The second program: document 01's rules with document 02's order 1 in plain Python, and the lines that docs/conformance.md asks for.
 
-It is written from these two papers alone, without a look at the library, and is to be read against them:
-it is slow wherever that is plainer. `Rules` holds document 01, `Driver` the script, `run` makes the lines.
+It is written from these papers alone, without a look at the library, and is to be read against them:
+it is slow wherever that is plainer. `Rules` holds document 01 with order 1, `Driver` the script, `run` makes the lines.
 """
 
 from dataclasses import dataclass, replace
@@ -16,6 +16,7 @@ MOST_DISPLACEMENT = 2**40
 MOST_LENGTH = 2**40
 OFFSETS = 2**32  # offsets are 0 to OFFSETS - 1, pointers 0 to OFFSETS
 READING, WRITING = (1, 3), (2, 3)  # the modes that allow each
+ETYPE, FILETYPE = 1, 2  # the numbers of the types that a refusal names; 0 where it names none
 
 
 @dataclass(frozen=True)
@@ -68,6 +69,15 @@ class File:
 
 
 @dataclass(frozen=True)
+class Fault:
+    """A refusal of a set, with the type that it names and the number of the entry, counted from 0; both 0 where it names none."""
+
+    refusal: int
+    type: int = 0
+    entry: int = 0
+
+
+@dataclass(frozen=True)
 class Answer:
     handle: Handle
     refusal: int = 0
@@ -92,9 +102,10 @@ REFUSED_HANDLE = Handle(0, 0, DEFAULT_VIEW)
 
 
 class Rules:
-    """Document 01. A handle comes in and goes back as a value; lent lists and buffers are changed in place."""
+    """Document 01 with order 1. A handle comes in and goes back as a value; lent lists and buffers are changed in place."""
 
-    # When a view is accepted
+    # When a view is accepted. Of a rule that a list of entries can break there is a method that gives all the faults in the order in
+    # which they are to be found; a set is refused with the first one.
 
     def counts_allowed(self, etype_entries, filetype_entries):
         return (1 <= etype_entries <= ETYPE_PLACES
@@ -103,58 +114,90 @@ class Rules:
     def entry_allowed(self, width, displacement):
         return width in WIDTHS and displacement >= 0 and displacement + width <= LAST_BYTE
 
-    def ordered(self, numbers):
-        return all(a <= b for a, b in zip(numbers, numbers[1:]))
+    def entry_faults(self, etype, filetype):
+        """6, entry by entry, so that an entry's displacement comes before the next one's width. The etype comes first."""
+        for kind, t in ((ETYPE, etype), (FILETYPE, filetype)):
+            for entry, (w, d) in enumerate(t.entries()):
+                if not self.entry_allowed(w, d):
+                    yield Fault(6, kind, entry)
+
+    def order_faults(self, etype, filetype):
+        """7. Of the two entries that are not ordered the later one is named. The etype comes first."""
+        for kind, t in ((ETYPE, etype), (FILETYPE, filetype)):
+            for entry, (before, following) in enumerate(zip(t.displacements, t.displacements[1:]), 1):
+                if following < before:
+                    yield Fault(7, kind, entry)
 
     def origins(self, etype, filetype):
-        """The instances' origins, or None if the filetype is not built of the etype."""
+        """Of each group the shift of its first entry, a signed number. If the filetype is built of the etype, these are p(0) to p(K-1)."""
+        n = len(etype.widths)
+        return tuple(filetype.displacements[first] - etype.displacements[0] for first in range(0, len(filetype.widths), n))
+
+    def built_faults(self, etype, filetype):
+        """17, which names no entry. Then group by group 18, of each entry that differs in width or shift, and 19, of the first entry."""
         n = len(etype.widths)
         if len(filetype.widths) % n != 0:
-            return None
-        starts = range(0, len(filetype.widths), n)
-        found = tuple(filetype.displacements[g] - etype.displacements[0] for g in starts)
-        for g, origin in zip(starts, found):
-            shifted = tuple(origin + d for d in etype.displacements)
-            if origin < 0 or filetype.widths[g:g + n] != etype.widths or filetype.displacements[g:g + n] != shifted:
-                return None
-        return found
+            yield Fault(17)
+            return
+        for group, origin in enumerate(self.origins(etype, filetype)):
+            first = group * n
+            for index in range(n):
+                same_width = filetype.widths[first + index] == etype.widths[index]
+                same_shift = filetype.displacements[first + index] == etype.displacements[index] + origin
+                if not (same_width and same_shift):
+                    yield Fault(18, FILETYPE, first + index)
+            if origin < 0:
+                yield Fault(19, FILETYPE, first)
 
-    def holes(self, origins, etype_extent, filetype_extent):
-        between = [b - a - etype_extent for a, b in zip(origins, origins[1:])]
-        last = filetype_extent - origins[-1] - etype_extent
-        return [origins[0]] + [hole for hole in between + [last] if hole > 0]
+    def holes(self, n, origins, etype_extent, filetype_extent):
+        """The holes, each with the entry that it names: the first one of the group after it, for the final hole the last of all."""
+        between = [(origins[i] - origins[i - 1] - etype_extent, i * n) for i in range(1, len(origins))]
+        final = (filetype_extent - origins[-1] - etype_extent, len(origins) * n - 1)
+        return [(origins[0], 0)] + [(hole, entry) for hole, entry in between + [final] if hole > 0]
 
-    def entries_overlap(self, filetype):
+    def hole_faults(self, etype, filetype):
+        """9."""
+        origins = self.origins(etype, filetype)
+        for hole, entry in self.holes(len(etype.widths), origins, etype.extent, filetype.extent):
+            if hole % etype.extent != 0:
+                yield Fault(9, FILETYPE, entry)
+
+    def overlapping_neighbours(self, filetype):
+        """The entries that begin before the one before them ends."""
         entries = filetype.entries()
-        return any(d + w > following for (w, d), (_, following) in zip(entries, entries[1:]))
+        for entry, ((w, d), (_, following)) in enumerate(zip(entries, entries[1:]), 1):
+            if d + w > following:
+                yield entry
 
     def tiles_overlap(self, filetype):
         last_end = filetype.displacements[-1] + filetype.widths[-1]
         return last_end > filetype.displacements[0] + filetype.extent
 
-    def view_refusal(self, mode, displacement, etype, filetype):
-        """The first of the refusals 3 to 10 that applies, or 0."""
+    def overlap_faults(self, etype, filetype):
+        """10. Of two neighbours the later one is named, for an overlap with the next tile the last entry."""
+        for entry in self.overlapping_neighbours(filetype):
+            yield Fault(10, FILETYPE, entry)
+        if self.tiles_overlap(filetype):
+            yield Fault(10, FILETYPE, len(filetype.widths) - 1)
+
+    def view_fault(self, mode, displacement, etype, filetype):
+        """The first fault by the checks 3 to 7, 17 to 19, 9 and 10 in this order, or None."""
         types = (etype, filetype)
         if not 0 <= displacement <= MOST_DISPLACEMENT:
-            return 3
+            return Fault(3)
         if any(len(t.widths) != len(t.displacements) for t in types):
-            return 4
+            return Fault(4)
         if not self.counts_allowed(len(etype.widths), len(filetype.widths)):
-            return 4
+            return Fault(4)
         if not all(1 <= t.extent <= LAST_BYTE for t in types):
-            return 5
-        if not all(self.entry_allowed(w, d) for t in types for w, d in t.entries()):
-            return 6
-        if not all(self.ordered(t.displacements) for t in types):
-            return 7
-        origins = self.origins(etype, filetype)
-        if origins is None:
-            return 8
-        if any(hole % etype.extent != 0 for hole in self.holes(origins, etype.extent, filetype.extent)):
-            return 9
-        if mode in WRITING and (self.entries_overlap(filetype) or self.tiles_overlap(filetype)):
-            return 10
-        return 0
+            return Fault(5)
+        checks = [self.entry_faults, self.order_faults, self.built_faults, self.hole_faults]
+        if mode in WRITING:
+            checks.append(self.overlap_faults)
+        for check in checks:
+            for fault in check(etype, filetype):
+                return fault
+        return None
 
     # Check 1
 
@@ -162,7 +205,7 @@ class Rules:
         view = handle.view
         return (1 <= handle.mode <= 3 and 0 <= handle.pointer <= OFFSETS
                 and self.counts_allowed(view.entries, view.entries * view.instances)
-                and self.view_refusal(handle.mode, view.displacement, view.etype(), view.filetype()) == 0)
+                and self.view_fault(handle.mode, view.displacement, view.etype(), view.filetype()) is None)
 
     def file_allowed(self, file):
         return len(file.data) <= MOST_LENGTH and file.size <= len(file.data)
@@ -218,14 +261,15 @@ class Rules:
         return handle
 
     def set(self, handle, displacement, etype, filetype, representation):
+        """The numbers of a refused set's answer are the type and the entry that it names."""
         if not self.handle_allowed(handle):
-            refusal = 1
+            fault = Fault(1)
         elif representation != b"native":
-            refusal = 2
+            fault = Fault(2)
         else:
-            refusal = self.view_refusal(handle.mode, displacement, etype, filetype)
-        if refusal:
-            return Answer(self.after_refused_set(handle), refusal)
+            fault = self.view_fault(handle.mode, displacement, etype, filetype)
+        if fault is not None:
+            return Answer(self.after_refused_set(handle), fault.refusal, numbers=(fault.type, fault.entry))
         view = view_of(displacement, etype, filetype, self.origins(etype, filetype))
         return Answer(replace(handle, pointer=0, view=view))
 

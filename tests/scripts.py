@@ -44,6 +44,16 @@ def words(origins, filetype_extent, displacement=0):
     return Shape((4,), (0,), 4, tuple(origins), filetype_extent, displacement)
 
 
+def in_a_row(n, instances):
+    """This many instances of an etype of n bytes, each right after the one before."""
+    return Shape((1,) * n, tuple(range(n)), n, tuple(range(0, n * instances, n)), n * instances)
+
+
+def one_changed(numbers, index, number):
+    """These numbers with another one at this index."""
+    return numbers[:index] + (number,) + numbers[index + 1:]
+
+
 def field(tag, body):
     return bytes([tag]) + len(body).to_bytes(2, "little") + body
 

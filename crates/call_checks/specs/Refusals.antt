@@ -1,4 +1,4 @@
--- Must be believed. Document 01, "Refusal numbers": for each call its checks in its order. A list, a buffer and a file come as their lengths.
+-- Must be believed. Document 01, "Refusal numbers", and document 02, order 1: for each call its checks in its order. A list, a buffer and a file come as their lengths.
 use Prim.Native.Nat.{ℕ, _*_}
 use mathlib.Core.Bool.{Bool, cond}
 use mathlib.Core.List.{List}
@@ -20,7 +20,7 @@ use Rattle.move_read.specs.Parts.{writeEnd}
 unfoldable pub openRefusal : ℕ → ℕ
 openRefusal mode = check (leb mode 3) 16 0
 
--- set: 1 to 10, the file not being looked at
+-- set: 1 to 10, with 17 to 19 in the place of 8 (document 02, order 1), the file not being looked at
 unfoldable pub setViewRefusal : PaperHandle → List ℕ → PaperView → ℕ
 setViewRefusal h representation v = check (handleValid h) 1 (setRefusal (h .mode) representation v)
 

@@ -1,13 +1,14 @@
 -- A set: it is granted exactly if the handle, the representation and the lent view keep their rules, and then its handle has that view and passes check 1.
 -- Rests on `accepted-is` and `accepted-only`, and on `record-same`: the record in which a view is held stands for it.
-use Rattle.laws.proofs.Prelude.{ℕ, _≡_, sym, ap, _∙_, true, List, arith, ℤ, w64, SFits, toZ, ofZ, toZ-ofZ, le-leb, eqb-true, eq-eqb, also-true, also-inv, check-zero, check-inv, granted-yes, granted-no}
+use Rattle.laws.proofs.Prelude.{ℕ, _≡_, refl, sym, ap, _∙_, true, false, ⊎-elim, List, arith, eqb, check-past, ℤ, w64, SFits, toZ, ofZ, toZ-ofZ, le-leb, eqb-true, eq-eqb, also-true, also-inv, check-zero, check-inv, granted-yes, granted-no}
 use Rattle.view.specs.Limits.{pointerAllowed}
-use Rattle.view.specs.Types.{PaperView, paper, entries, viewOfLists}
+use Rattle.view.specs.Types.{PaperView, paper, viewOfLists}
 use Rattle.view.specs.Rules.{isNative}
 use Rattle.view.specs.Acceptance.{IsAccepted, viewRefusal, setRefusal, accepted}
-use Rattle.view.specs.Parts.{recordOf}
-use Rattle.view.proofs.Accepted.{built-is, built-only}
-use Rattle.view.proofs.Exactly.{accepted-is, accepted-only, count-some}
+use Rattle.view.specs.Named.{namedNumbers, Names}
+use Rattle.view.specs.Parts.{namedBy, recordOf}
+use Rattle.view.proofs.Exactly.{accepted-is, accepted-only}
+use Rattle.view.proofs.Telling.{named-is, fails-17, built-9, built-10, never-8}
 use Rattle.view.proofs.Holding.{record-same}
 use Rattle.handle.specs.Handles.{handleValid}
 use Rattle.call_checks.specs.Refusals.{setViewRefusal}
@@ -70,6 +71,10 @@ module _ (h : Handle) (representation : List ℕ) (v : PaperView) (s : SetViewAn
   unfolding setViewAnswer
   refused-handle n = ap (λ x. x .handle) e ∙ granted-no _ _ h (λ z. n (number ∙ z))
 
+  named-is-told : s .named ≡ namedBy v (s .refusal)
+  unfolding setViewAnswer
+  named-is-told = ap (λ x. x .named) e ∙ ap (namedBy v) (sym number)
+
   none-counted : s .count ≡ 0
   unfolding setViewAnswer
   none-counted = ap (λ x. x .count) e
@@ -77,6 +82,19 @@ module _ (h : Handle) (representation : List ℕ) (v : PaperView) (s : SetViewAn
   only-granted : handleValid (onPaper h) ≡ true → isNative representation ≡ true → IsAccepted (h .mode) v → s .refusal ≡ 0
   unfolding setViewRefusal setRefusal accepted
   only-granted k n a = number ∙ check-zero 1 k (check-zero 2 n (eqb-true (viewRefusal (h .mode) v) 0 (accepted-only (h .mode) v a)))
+
+  -- ---- what a refusal names
+
+  -- a number but 1 and 2 is the view's
+  of-view : (j : ℕ) → eqb 1 j ≡ false → eqb 2 j ≡ false → s .refusal ≡ j → viewRefusal (h .mode) v ≡ j
+  unfolding setViewRefusal setRefusal
+  of-view j a b q = check-past _ 2 _ j b (check-past _ 1 _ j a (sym number ∙ q) .1) .1
+
+  names-are : Names v (s .refusal) (namedNumbers (s .named))
+  names-are = rw named-is-told (named-is (h .mode) v (s .refusal) of-view)
+
+  never : s .refusal ≡ 8 → ⊥
+  never q = never-8 (h .mode) v (of-view 8 refl refl q)
 
   -- the claim, of any answer that the call gives
   pub view-set : ViewSet h representation v s
@@ -86,7 +104,10 @@ module _ (h : Handle) (representation : List ℕ) (v : PaperView) (s : SetViewAn
     refused = refused-handle;
     rules = λ z. (set-valid z .0, (set-named z .0, accepted-is (h .mode) v (set-accepted z)));
     only = only-granted;
-    groups = λ a. (built-is v, built-only v (count-some (entries (v .etype)) a));
+    names = names-are;
+    multiple = λ q. fails-17 (h .mode) v (of-view 17 refl refl q);
+    groups = ⊎-elim (λ q. built-9 (h .mode) v (of-view 9 refl refl q)) (λ q. built-10 (h .mode) v (of-view 10 refl refl q));
+    never-8 = never;
     view = view-is;
     pointer = pointer-zero;
     mode = granted-mode;

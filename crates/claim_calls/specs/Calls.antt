@@ -1,18 +1,18 @@
 -- Must be believed. Document 01: what is claimed of open, set, giving back, place, end and seek, each by itself.
 -- A refusal carries its number, count 0, any other number 0, and the handle and file record as they came; no lent list changes.
 use Prim.Native.Nat.{ℕ, _+_, _*_, _/_, _%_}
-use mathlib.Core.Bool.{true}
+use mathlib.Core.Bool.{true, false}
 use mathlib.Core.List.{List, [], _∷_}
-use mathlib.Core.Logic.{_≢_}
+use mathlib.Core.Logic.{_≢_, _⊎_}
 use mathlib.Core.Path.{_≡_}
 use lib.IntN.{ℤ, pos}
 use lib.ListN.{length, take, drop}
 use Rattle.laws.specs.Checks.{granted}
-use Rattle.view.specs.Limits.{etypeEntriesAllowed}
-use Rattle.view.specs.Types.{PaperView, viewOfLists, Typemaps, entries, extentOf, whole}
-use Rattle.view.specs.Rules.{isNative, instances, origin, IsBuilt}
+use Rattle.view.specs.Types.{PaperView, viewOfLists, Typemaps, extentOf, whole}
+use Rattle.view.specs.Rules.{isNative, wholeGroups, instances, origin, IsBuilt}
+use Rattle.view.specs.Named.{namedNumbers, Names}
 use Rattle.view.specs.Acceptance.{IsAccepted}
-use Rattle.view.specs.Parts.{built, endOfFile}
+use Rattle.view.specs.Parts.{endOfFile}
 use Rattle.view.specs.End.{IsEnd}
 use Rattle.handle.specs.declared.FileRecord.{FileRecord}
 use Rattle.handle.specs.Handles.{handleValid, fileValid}
@@ -55,14 +55,17 @@ pub record Opened (asked : ℕ) (r : OpenAnswer) : Type 0 where
 -- ---- set
 
 -- granted exactly if the handle passes check 1, the representation is `native`, and the view keeps the limits and rules for the handle's mode; the handle then has the lent view and pointer 0, and its mode stays.
--- The test that check 8 makes of the groups says that the filetype is built of the etype, and nothing else passes it (check 4 comes before it). Check 1 makes it of a handle's own view, which may be lent to a set like any other
+-- A refusal names what order 1 says. 17 is given only where the entry count is no multiple of the etype's, and what is refused with 9 or 10 is built of the etype. 8 is given no more
 pub record ViewSet (h : Handle) (representation : List ℕ) (v : PaperView) (r : SetViewAnswer) : Type 0 where
   pub number : r .refusal ≡ setViewRefusal (onPaper h) representation v
   pub count : r .count ≡ 0
   pub refused : r .refusal ≢ 0 → r .handle ≡ h
   pub rules : r .refusal ≡ 0 → (handleValid (onPaper h) ≡ true) × ((isNative representation ≡ true) × IsAccepted (h .mode) v)
   pub only : handleValid (onPaper h) ≡ true → isNative representation ≡ true → IsAccepted (h .mode) v → r .refusal ≡ 0
-  pub groups : etypeEntriesAllowed (entries (v .etype)) ≡ true → (built v ≡ true → IsBuilt v) × (IsBuilt v → built v ≡ true)
+  pub names : Names v (r .refusal) (namedNumbers (r .named))
+  pub multiple : r .refusal ≡ 17 → wholeGroups v ≡ false
+  pub groups : (r .refusal ≡ 9) ⊎ (r .refusal ≡ 10) → IsBuilt v
+  pub never-8 : r .refusal ≢ 8
   pub view : r .refusal ≡ 0 → viewOf (r .handle) ≡ v
   pub pointer : r .refusal ≡ 0 → r .handle .pointer ≡ 0
   pub mode : r .refusal ≡ 0 → r .handle .mode ≡ h .mode

@@ -1,8 +1,10 @@
 -- The answers of the calls that move no data, from what the functions below gave.
 use Rattle.laws.proofs.Prelude.{ℕ, _≤_, _<_, _≡_, refl, sym, ap, _∙_, Bool, false, not, true, List, arith, ℤ, pos, w64, SFits, toZ, ofZ, toZ-ofZ, le-leb, lt-leb, check, granted, check-yes, check-no, granted-yes, granted-no, unflag-true, unflag-false}
+use Rattle.view.specs.declared.Named.{Named}
+use Rattle.view.specs.declared.Named.the-variants.{Nothing}
 use Rattle.view.specs.declared.Owner.the-variants.{Nobody}
 use Rattle.view.specs.Types.{PaperView, whole, viewOfLists}
-use Rattle.view.specs.Parts.{recordOf, ownerOf, endOfFile}
+use Rattle.view.specs.Parts.{namedBy, recordOf, ownerOf, endOfFile}
 use Rattle.view.specs.Places.{place}
 use Rattle.handle.specs.declared.FileRecord.{FileRecord}
 use Rattle.handle.specs.Handles.{handleValid}
@@ -35,39 +37,47 @@ module _ (mode : ℕ) where
 -- ---- set
 
 module _ (h : Handle) (representation : List ℕ) (v : PaperView) (t : Bool) (q : t ≡ handleValid (onPaper h)) where
-  set-refused : (n : ℕ) → n ≡ setViewRefusal (onPaper h) representation v → (n ≡ 0 → ⊥) → record { refusal = n; count = 0; handle = h } ≡ setViewAnswer h representation v
+  set-refused : (n : ℕ) (named : Named) → n ≡ setViewRefusal (onPaper h) representation v → named ≡ namedBy v n → (n ≡ 0 → ⊥) → setViewAs n h named ≡ setViewAnswer h representation v
   unfolding setViewAnswer
-  set-refused n e z = let g = granted-no (setViewRefusal (onPaper h) representation v) (withView h (recordOf v)) h (λ q. z (e ∙ q)) in λ i. record { refusal = e i; count = 0; handle = sym g i }
+  set-refused n named e a z =
+      let g = granted-no (setViewRefusal (onPaper h) representation v) (withView h (recordOf v)) h (λ q. z (e ∙ q)) in
+      let b = a ∙ ap (namedBy v) e in
+      λ i. record { refusal = e i; count = 0; handle = sym g i; named = b i }
 
-  pub set-handle : not t ≡ true → (m : SetViewAnswer) → m ≡ setViewAs 1 h → m ≡ setViewAnswer h representation v
-  unfolding setViewRefusal
-  set-handle n m y = y ∙ set-refused 1 (check-no _ 1 _ 1 (unflag-false t _ q n) refl) (λ q. omega arith)
+  pub set-handle : not t ≡ true → (m : SetViewAnswer) → m ≡ setViewAs 1 h Nothing → m ≡ setViewAnswer h representation v
+  unfolding setViewRefusal namedBy
+  set-handle n m y = y ∙ set-refused 1 Nothing (check-no _ 1 _ 1 (unflag-false t _ q n) refl) refl (λ q. omega arith)
 
   module _ (n : not t ≡ false) (made : Accepted) (a : AcceptedAs (h .mode) representation v made) where
     is-set : made .refusal ≡ setViewRefusal (onPaper h) representation v
     unfolding setViewRefusal acceptAnswer
     is-set = check-yes _ 1 _ (made .refusal) (unflag-true t _ q n) (ap (λ x. x .refusal) (a .answer))
 
-    set-rules : (made .refusal ≡ 0 → ⊥) → record { refusal = made .refusal; count = 0; handle = h } ≡ setViewAnswer h representation v
-    set-rules z = set-refused (made .refusal) is-set z
+    is-named : made .named ≡ namedBy v (made .refusal)
+    unfolding acceptAnswer
+    is-named = ap (λ x. x .named) (a .answer) ∙ ap (namedBy v) (sym (ap (λ x. x .refusal) (a .answer)))
 
-    set-done : made .refusal ≡ 0 → record { refusal = 0; count = 0; handle = record { mode = h .mode; pointer = 0; view = made .view } } ≡ setViewAnswer h representation v
-    unfolding setViewAnswer withView acceptAnswer
+    set-rules : (made .refusal ≡ 0 → ⊥) → setViewAs (made .refusal) h (made .named) ≡ setViewAnswer h representation v
+    set-rules z = set-refused (made .refusal) (made .named) is-set is-named z
+
+    set-done : made .refusal ≡ 0 → setViewAs 0 (record { mode = h .mode; pointer = 0; view = made .view }) Nothing ≡ setViewAnswer h representation v
+    unfolding setViewAnswer withView acceptAnswer namedBy
     set-done z =
         let r : 0 ≡ setViewRefusal (onPaper h) representation v = sym z ∙ is-set in
         let g = granted-yes (setViewRefusal (onPaper h) representation v) (withView h (recordOf v)) h (sym r) in
         let w : made .view ≡ recordOf v = ap (λ x. x .view) (a .answer) ∙ granted-yes _ _ _ (sym (ap (λ x. x .refusal) (a .answer)) ∙ z) in
-        λ i. record { refusal = r i; count = 0; handle = (ap (withView h) w ∙ sym g) i }
+        let b = ap (namedBy v) r in
+        λ i. record { refusal = r i; count = 0; handle = (ap (withView h) w ∙ sym g) i; named = b i }
 
 -- the same, with the signed numbers as the machine reads them
 module _ (h : Handle) (representation : List ℕ) (d : ℤ) (ew : List ℕ) (ed : List ℤ) (ex : ℤ) (fw : List ℕ) (fd : List ℤ) (fx : ℤ) (sd : SFits w64 d) (sx : SFits w64 ex) (sf : SFits w64 fx) (t : Bool) (q : t ≡ handleValid (onPaper h)) (n : not t ≡ false) (made : Accepted) (a : AcceptedAs (h .mode) representation (viewOfLists (toZ w64 (ofZ w64 d)) ew ed (toZ w64 (ofZ w64 ex)) fw fd (toZ w64 (ofZ w64 fx))) made) where
   lent-is : AcceptedAs (h .mode) representation (viewOfLists d ew ed ex fw fd fx) made
   lent-is = rw (toZ-ofZ sd, toZ-ofZ sx, toZ-ofZ sf) at a
 
-  pub set-refuses : (made .refusal ≡ 0 → ⊥) → (m : SetViewAnswer) → m ≡ setViewAs (made .refusal) h → m ≡ setViewAnswer h representation (viewOfLists d ew ed ex fw fd fx)
+  pub set-refuses : (made .refusal ≡ 0 → ⊥) → (m : SetViewAnswer) → m ≡ setViewAs (made .refusal) h (made .named) → m ≡ setViewAnswer h representation (viewOfLists d ew ed ex fw fd fx)
   set-refuses z m y = y ∙ set-rules h representation _ t q n made lent-is z
 
-  pub set-grants : made .refusal ≡ 0 → (m : SetViewAnswer) → m ≡ setViewAs 0 (record { mode = h .mode; pointer = 0; view = made .view }) → m ≡ setViewAnswer h representation (viewOfLists d ew ed ex fw fd fx)
+  pub set-grants : made .refusal ≡ 0 → (m : SetViewAnswer) → m ≡ setViewAs 0 (record { mode = h .mode; pointer = 0; view = made .view }) Nothing → m ≡ setViewAnswer h representation (viewOfLists d ew ed ex fw fd fx)
   set-grants z m y = y ∙ set-done h representation _ t q n made lent-is z
 
 -- ---- place, reverse, end

@@ -7,10 +7,11 @@ use mathlib.Core.Path.{_≡_}
 use lib.IntN.{ℤ, pos}
 use lib.ListN.{length}
 use Rattle.laws.specs.Checks.{granted}
+use Rattle.view.specs.declared.Named.{Named}
 use Rattle.view.specs.declared.Owner.the-variants.{Nobody}
 use Rattle.view.specs.declared.View.{View}
 use Rattle.view.specs.Limits.{pointerAllowed}
-use Rattle.view.specs.Parts.{recordOf, ownerOf, endOfFile, defaultView}
+use Rattle.view.specs.Parts.{namedBy, recordOf, ownerOf, endOfFile, defaultView}
 use Rattle.view.specs.Places.{place}
 use Rattle.view.specs.Types.{PaperType, PaperView, entries, extentOf, whole, Typemaps}
 use Rattle.view_typemap.specs.Parts.{widthsFilled, displacementsFilled}
@@ -47,12 +48,12 @@ openAnswer mode =
     let n = openRefusal mode in
     record { refusal = n; count = 0; handle = freshHandle (granted n (modeGot mode) 0) }
 
--- ---- set: the view, and pointer 0
+-- ---- set: the view, and pointer 0; a refusal may name an entry
 
 unfoldable pub setViewAnswer : Handle → List ℕ → PaperView → SetViewAnswer
 setViewAnswer h representation v =
     let n = setViewRefusal (onPaper h) representation v in
-    record { refusal = n; count = 0; handle = granted n (withView h (recordOf v)) h }
+    record { refusal = n; count = 0; handle = granted n (withView h (recordOf v)) h; named = namedBy v n }
 
 -- ---- giving back: four lists, both entry counts, both extents, the displacement
 
@@ -159,8 +160,8 @@ pub record WriteNext (h : Handle) (before after : List ℕ) (r : FileRecord) (c 
 abbrev pub openAs : ℕ → Handle → OpenAnswer
 openAs n h = record { refusal = n; count = 0; handle = h }
 
-abbrev pub setViewAs : ℕ → Handle → SetViewAnswer
-setViewAs n h = record { refusal = n; count = 0; handle = h }
+abbrev pub setViewAs : ℕ → Handle → Named → SetViewAnswer
+setViewAs n h named = record { refusal = n; count = 0; handle = h; named = named }
 
 -- a refused seek, and a refused access
 abbrev pub seekRefused : ℕ → Handle → FileRecord → SeekAnswer

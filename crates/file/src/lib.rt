@@ -11,6 +11,7 @@ ghost use mathlib.Core.Path.{_≡_};
 ghost use Rattle.file.specs.Constants.{constantsOnPaper};
 pub use handle::FileRecord;
 use view::BytePos;
+use view::Named;
 use view::Offset;
 use view::Owner;
 use view::View;
@@ -20,7 +21,7 @@ pub struct Constants {
     pub modes: [u64; 4],
     pub limits: [u64; 2],
     pub whences: [u64; 3],
-    pub refusals: [u64; 16],
+    pub refusals: [u64; 18],
 }
 
 // A file handle: the mode of the open, the individual file pointer, and the view.
@@ -51,7 +52,7 @@ impl Handle {
 
     pub const SEEK_END: u64 = call_query::WHENCE_END;
 
-    // Document 01's refusal numbers, in its order.
+    // The refusal numbers of documents 01 and 02, in their order.
     pub const REFUSED_HANDLE: u64 = View::REFUSED_HANDLE;
 
     pub const REFUSED_REPRESENTATION: u64 = View::REFUSED_REPRESENTATION;
@@ -65,8 +66,6 @@ impl Handle {
     pub const REFUSED_ENTRY: u64 = View::REFUSED_ENTRY;
 
     pub const REFUSED_ORDER: u64 = View::REFUSED_ORDER;
-
-    pub const REFUSED_GROUPS: u64 = View::REFUSED_GROUPS;
 
     pub const REFUSED_HOLE: u64 = View::REFUSED_HOLE;
 
@@ -84,7 +83,14 @@ impl Handle {
 
     pub const REFUSED_OPEN_MODE: u64 = View::REFUSED_OPEN_MODE;
 
-    // Every constant above; the contract says that they are document 01's numbers.
+    // Of order 1, in the place of 8.
+    pub const REFUSED_WHOLE_GROUPS: u64 = View::REFUSED_WHOLE_GROUPS;
+
+    pub const REFUSED_GROUP: u64 = View::REFUSED_GROUP;
+
+    pub const REFUSED_ORIGIN: u64 = View::REFUSED_ORIGIN;
+
+    // Every constant above; the contract says that they are the papers' numbers.
     pub fn constants() -> Constants
         ensures { λ r. ⌜ r ≡ constantsOnPaper ⌝ }
     {
@@ -105,7 +111,6 @@ impl Handle {
                 Handle::REFUSED_EXTENT,
                 Handle::REFUSED_ENTRY,
                 Handle::REFUSED_ORDER,
-                Handle::REFUSED_GROUPS,
                 Handle::REFUSED_HOLE,
                 Handle::REFUSED_OVERLAP,
                 Handle::REFUSED_MODE,
@@ -114,6 +119,9 @@ impl Handle {
                 Handle::REFUSED_LENGTH,
                 Handle::REFUSED_WHENCE,
                 Handle::REFUSED_OPEN_MODE,
+                Handle::REFUSED_WHOLE_GROUPS,
+                Handle::REFUSED_GROUP,
+                Handle::REFUSED_ORIGIN,
             ],
         }
     }
@@ -128,10 +136,12 @@ pub struct OpenAnswer {
     pub handle: Handle,
 }
 
+// A refusal may name an entry of a type.
 pub struct SetViewAnswer {
     pub refusal: u64,
     pub count: u64,
     pub handle: Handle,
+    pub named: Named,
 }
 
 // How many entries a type has, and its extent.

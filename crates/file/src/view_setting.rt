@@ -8,14 +8,16 @@ use crate::Handle;
 use crate::SetViewAnswer;
 use crate::TypeShape;
 use handle::HandleNumbers;
+use view::Named;
 
-fn set_view_answer(refusal: u64, handle: Handle) -> SetViewAnswer
-    ensures { λ r. ⌜ r ≡ setViewAs refusal handle ⌝ }
+fn set_view_answer(refusal: u64, handle: Handle, named: Named) -> SetViewAnswer
+    ensures { λ r. ⌜ r ≡ setViewAs refusal handle named ⌝ }
 {
     SetViewAnswer {
         refusal: refusal,
         count: 0,
         handle: handle,
+        named: named,
     }
 }
 
@@ -57,7 +59,7 @@ fn get_view_answer(refusal: u64, handle: Handle) -> GetViewAnswer
 }
 
 impl Handle {
-    // Sets the view that the lent lists describe, and the pointer to 0: widths, displacements and extent of the etype (ew, ed, ex) and of the filetype (fw, fd, fx).
+    // Sets the view that the lent lists describe, and the pointer to 0; a refusal may name the entry that breaks a rule. Widths, displacements and extent of the etype (ew, ed, ex) and of the filetype (fw, fd, fx).
     pub fn set_view(
         mut self,
         representation: &[u8],
@@ -84,17 +86,18 @@ impl Handle {
             &self.view.origins,
         );
         if !valid {
-            return set_view_answer(Handle::REFUSED_HANDLE, self);
+            return set_view_answer(Handle::REFUSED_HANDLE, self, Named::Nothing);
         }
         let mode = self.mode;
         let made = rule_set::accept(mode, representation, displacement, ew, ed, ex, fw, fd, fx);
         if made.refusal != 0 {
-            return set_view_answer(made.refusal, self);
+            let named = made.named;
+            return set_view_answer(made.refusal, self, named);
         }
         let view = made.view;
         self.view = view;
         self.pointer = 0;
-        set_view_answer(0, self)
+        set_view_answer(0, self, Named::Nothing)
     }
 
     // Document 01's giving back: the view's typemaps at the front of the four lists, both entry counts, both extents and the displacement.

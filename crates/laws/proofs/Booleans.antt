@@ -137,6 +137,23 @@ pub check-zero : {b : Bool} {later : ℕ} → (k : ℕ) → b ≡ true → later
 unfolding check
 check-zero {b} {later} k h e = rw h e
 
+-- a chain that gives j passes the checks of other numbers, and fails that of j where no later one gives it
+pub check-past : (b : Bool) (k later j : ℕ) → eqb k j ≡ false → check b k later ≡ j → (b ≡ true) × (later ≡ j)
+unfolding check
+check-past true k later j n e = (refl, e)
+check-past false k later j n e = not-both (eq-eqb k j e) n
+
+pub check-here : (b : Bool) (later j : ℕ) → check b j later ≡ j → (later ≡ j → ⊥) → b ≡ false
+unfolding check
+check-here true later j e n = absurd (n e)
+check-here false later j e n = refl
+
+-- two chains, one step: they agree if the conditions do, and the rest where each condition holds or fails
+pub check-step : {A : Type 0} (f g : ℕ → A) (b c : Bool) (k x y : ℕ) → b ≡ c → (c ≡ false → f k ≡ g k) → (c ≡ true → f x ≡ g y) → f (check b k x) ≡ g (check c k y)
+unfolding check
+check-step f g b true k x y e fails holds = rw e (holds refl)
+check-step f g b false k x y e fails holds = rw e (fails refl)
+
 pub granted-yes : {A : Type 0} (r : ℕ) (a b : A) → r ≡ 0 → granted r a b ≡ a
 unfolding granted
 granted-yes r a b h = rw (eq-eqb r 0 h)

@@ -62,3 +62,10 @@ pub front-part : {A : Type 0} (f : ℕ → A) (n : ℕ) (d : A) (l : List A) →
 front-part f n d l h =
     let e = length-tabulate f n in
     rw e at (take-front d (tabulate f n) l f (omega arith) (λ i b. sym (tabulate-at f n i d (omega arith))))
+
+-- n places of an array
+pub upto : (l : List ℕ) (n m : ℕ) → length l ≡ m → n ≤ m → n ≤ length l
+upto l n m e h = omega arith
+
+pub prefix : (l : List ℕ) (n m : ℕ) → length l ≡ m → n ≤ m → n ≡ length (take n l)
+prefix l n m e h = sym (length-take-le n l (upto l n m e h))

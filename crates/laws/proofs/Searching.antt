@@ -1,5 +1,5 @@
 -- Laws of `leastFalse` and `all`: what a search returns, and the invariant of the loop that makes it.
-use Prim.Native.Nat.{ℕ, zero, suc, _+_, _≤_, _<_}
+use Prim.Native.Nat.{ℕ, zero, suc, _+_, _-_, _≤_, _<_}
 use mathlib.Core.Bool.{Bool, true, false, cond}
 use mathlib.Core.Logic.{⊎-elim}
 use mathlib.Core.Path.{_≡_, refl, sym, ap, _∙_}
@@ -9,8 +9,8 @@ use lib.Dec.{eqb}
 use borrow.Author.Count.{below-more}
 use borrow.Author.Needs.{needs}
 use borrow.Author.Tests.{eq-eqb, ne-eqb, eqb-true, le-ltb, lt-ltb, le-leb, lt-leb}
-use Rattle.laws.specs.Search.{leastFalse, all}
-use Rattle.laws.proofs.Booleans.{eq-or-ne, iff, flag-true, flag-false, unflag-true, unflag-false}
+use Rattle.laws.specs.Search.{leastFalse, all, IsFirst}
+use Rattle.laws.proofs.Booleans.{eq-or-ne, lt-or-le, not-both, iff, flag-true, flag-false, unflag-true, unflag-false}
 
 -- a search among the first n indices found f; then index n is looked at, which keeps the rule or not
 abbrev searched : ℕ → ℕ → Bool → ℕ
@@ -98,6 +98,44 @@ passed-stop p i n s l h = least-false-is p n i (s .reached) (s .keeps) (λ q. h)
 pub passed-end : (p : ℕ → Bool) (i n : ℕ) → Passed p i n → n ≤ i → i ≡ leastFalse p n
 passed-end p i n s l = least-false-is p n i (s .reached) (s .keeps) (λ q. absurd (omega arith))
 
+pub least-false-same : (p q : ℕ → Bool) (n : ℕ) → ((k : ℕ) → k < n → p k ≡ q k) → leastFalse p n ≡ leastFalse q n
+least-false-same p q n h =
+    least-false-is q n (leastFalse p n) (least-false-le p n) (λ k l. sym (h k (omega (arith, least-false-le p n))) ∙ least-false-keeps p n k l) (λ l. sym (h (leastFalse p n) l) ∙ least-false-breaks p n l)
+
+-- ---- a search that ends at the last index at the latest: the first that breaks the rule, or the last one
+
+pub ends-first : (p : ℕ → Bool) (n g : ℕ) → ((k : ℕ) → k < g → p k ≡ true) → g < n → p g ≡ false → leastFalse p (n - 1) ≡ g
+ends-first p n g keeps l h = sym (least-false-is p (n - 1) g (omega arith) keeps (λ q. h))
+
+pub ends-last : (p : ℕ → Bool) (n : ℕ) → ((k : ℕ) → k < n → p k ≡ true) → leastFalse p (n - 1) ≡ n - 1
+ends-last p n keeps = sym (least-false-is p (n - 1) (n - 1) (omega arith) (λ k l. keeps k (omega arith)) (λ l. absurd (omega arith)))
+
+pub ends-holds : (p : ℕ → Bool) (n : ℕ) → p (leastFalse p (n - 1)) ≡ true → (k : ℕ) → k < n → p k ≡ true
+ends-holds p n h k l = ⊎-elim (λ e. ⊎-elim (last e) (λ b. least-false-keeps p (n - 1) k (omega arith)) (eq-or-lt-of-le {n = k} {m = n - 1} (omega arith))) (λ b. not-both h (least-false-breaks p (n - 1) b)) (eq-or-lt-of-le (least-false-le p (n - 1)))
+  where
+    last : leastFalse p (n - 1) ≡ n - 1 → k ≡ n - 1 → p k ≡ true
+    last e q = ap p (q ∙ sym e) ∙ h
+
+-- ---- the first index that breaks a rule
+
+pub first-one : (breaks : ℕ → Type 0) (n i j : ℕ) → IsFirst breaks n i → IsFirst breaks n j → i ≡ j
+first-one breaks n i j a b = ⊎-elim (λ e. e) (λ ne. ⊎-elim (λ l. absurd (b .earlier i l (a .here))) (λ l. absurd (a .earlier j (omega arith) (b .here))) (lt-or-le i j)) (eq-or-ne i j)
+
+-- what the search finds is the first index at which a test fails, and nothing else is
+pub first-false : (p : ℕ → Bool) (n : ℕ) → leastFalse p n < n → IsFirst (λ i. p i ≡ false) n (leastFalse p n)
+first-false p n l = record { below = l; here = least-false-breaks p n l; earlier = λ k b e. not-both (least-false-keeps p n k b) e }
+
+pub not-false-true : (b : Bool) → (b ≡ false → ⊥) → b ≡ true
+not-false-true true h = refl
+not-false-true false h = absurd (h refl)
+
+pub not-true-false : (b : Bool) → (b ≡ true → ⊥) → b ≡ false
+not-true-false true h = absurd (h refl)
+not-true-false false h = refl
+
+pub first-found : (p : ℕ → Bool) (n i : ℕ) → IsFirst (λ k. p k ≡ false) n i → i ≡ leastFalse p n
+first-found p n i f = least-false-is p n i (omega (arith, f .below)) (λ k l. not-false-true (p k) (f .earlier k l)) (λ l. f .here)
+
 -- ---- a rule that holds everywhere
 
 pub all-intro : (p : ℕ → Bool) (n : ℕ) → ((k : ℕ) → k < n → p k ≡ true) → all p n ≡ true
@@ -124,5 +162,16 @@ passed-fails p i n s l h = sym (all-no p n i (passed-stop p i n s l h) (λ q. om
 
 pub passed-holds : (p : ℕ → Bool) (i n : ℕ) → Passed p i n → n ≤ i → true ≡ all p n
 passed-holds p i n s l = sym (all-yes p n i (passed-end p i n s l) (omega (arith, s .reached)))
+
+pub all-below : (p : ℕ → Bool) (n : ℕ) → all p n ≡ false → leastFalse p n < n
+unfolding all
+all-below p n h = ⊎-elim (λ e. not-both (eq-eqb (leastFalse p n) n e) h) (λ l. l) (eq-or-lt-of-le (least-false-le p n))
+
+pub all-reaches : (p : ℕ → Bool) (n : ℕ) → all p n ≡ true → n ≤ leastFalse p n
+unfolding all
+all-reaches p n h = omega (arith, eqb-true (leastFalse p n) n h)
+
+pub all-fails : (p : ℕ → Bool) (n i : ℕ) → i < n → p i ≡ false → all p n ≡ false
+all-fails p n i l h = not-true-false (all p n) (λ e. not-both (all-at p n e i l) h)
 
 pub ruleset searching = (needs, le-ltb, lt-ltb, le-leb, lt-leb, eq-eqb, ne-eqb, flag-true, flag-false, unflag-true, unflag-false, passed-none, passed-more, passed-stop, passed-end, passed-fails, passed-holds)

@@ -1,5 +1,5 @@
 -- Must be believed. Searches and sums over the indices below n.
-use Prim.Native.Nat.{ℕ, zero, suc, _+_}
+use Prim.Native.Nat.{ℕ, zero, suc, _+_, _<_}
 use mathlib.Core.Bool.{Bool, cond}
 use lib.Dec.{eqb}
 
@@ -11,6 +11,12 @@ leastFalse p (suc n) = cond (eqb (leastFalse p n) n) (cond (p n) (suc n) n) (lea
 -- p is true at each i below n
 unfoldable pub all : (ℕ → Bool) → ℕ → Bool
 all p n = eqb (leastFalse p n) n
+
+-- i is the first index below n that breaks a rule: it does, and no earlier one does
+pub record IsFirst (breaks : ℕ → Type 0) (n i : ℕ) : Type 0 where
+  pub below : i < n
+  pub here : breaks i
+  pub earlier : (k : ℕ) → k < i → breaks k → ⊥
 
 -- the sum of f i for i below n
 unfoldable pub total : (ℕ → ℕ) → ℕ → ℕ

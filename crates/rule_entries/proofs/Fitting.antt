@@ -1,8 +1,8 @@
 -- What the loops of this crate test at one index, and that no sum of theirs wraps.
-use Rattle.laws.proofs.Prelude.{ℕ, _+_, _-_, _≤_, _<_, _≡_, sym, _∙_, Bool, true, false, not, List, arith, length, getD, leb, w64, Fits, le-leb, lt-leb, not-true, not-false, nth, Passed, passed-fails, passed-holds, all-intro}
-use Rattle.view.specs.Parts.{ordered, EntriesValid}
+use Rattle.laws.proofs.Prelude.{ℕ, _+_, _-_, _≤_, _<_, _≡_, sym, ap, _∙_, Bool, true, false, not, List, arith, length, getD, leb, w64, Fits, le-leb, lt-leb, le-ltb, lt-ltb, not-true, not-false, nth, leastFalse, least-false-le, all-intro, Passed, passed-more, passed-stop, passed-end, passed-fails, passed-holds}
+use Rattle.view.specs.Parts.{inOrder, ordered, EntriesValid, laterEntry}
 use Rattle.rule_limits.specs.Parts.{entryFits}
-use Rattle.rule_entries.specs.Parts.{entryFitsAt, apartAt}
+use Rattle.rule_entries.specs.Parts.{entryFitsAt, apartAt, apartIn, ListsReady}
 
 -- ---- one entry
 
@@ -17,27 +17,32 @@ entry-false ws ds i t h n = sym h ∙ not-true t n
 
 -- ---- ordered
 
--- index i and the next are in order
-abbrev pub inOrder : List ℕ → ℕ → Bool
-inOrder ds i = leb (nth ds i) (nth ds (i + 1))
-
-pub in-order : (ds : List ℕ) (i : ℕ) → getD ds i 0 ≤ getD ds (i + 1) 0 → inOrder ds i ≡ true
+pub in-order : (ds : List ℕ) (i : ℕ) → getD ds i 0 ≤ getD ds (i + 1) 0 → inOrder (nth ds) i ≡ true
 in-order ds i h = le-leb _ _ h
 
-pub out-of-order : (ds : List ℕ) (i : ℕ) → getD ds (i + 1) 0 < getD ds i 0 → inOrder ds i ≡ false
+pub out-of-order : (ds : List ℕ) (i : ℕ) → getD ds (i + 1) 0 < getD ds i 0 → inOrder (nth ds) i ≡ false
 out-of-order ds i h = lt-leb _ _ h
+
+pub below-none : (ds : List ℕ) → length ds ≡ 0 → 1 ≡ leastFalse (inOrder (nth ds)) (length ds - 1) + 1
+below-none ds h = let q : length ds - 1 ≡ 0 = omega arith in omega (arith, least-false-le (inOrder (nth ds)) (length ds - 1))
+
+pub below-found : (ds : List ℕ) (i : ℕ) → Passed (inOrder (nth ds)) i (length ds - 1) → i < length ds - 1 → inOrder (nth ds) i ≡ false → i + 1 ≡ leastFalse (inOrder (nth ds)) (length ds - 1) + 1
+below-found ds i s l h = ap (λ (z : ℕ). z + 1) (passed-stop (inOrder (nth ds)) i (length ds - 1) s l h)
+
+pub below-end : (ds : List ℕ) (i : ℕ) → Passed (inOrder (nth ds)) i (length ds - 1) → length ds - 1 ≤ i → (length ds ≡ 0 → ⊥) → length ds ≡ leastFalse (inOrder (nth ds)) (length ds - 1) + 1
+below-end ds i s l h = omega (arith, passed-end (inOrder (nth ds)) i (length ds - 1) s l, s .reached)
 
 pub ordered-none : (ds : List ℕ) → length ds ≡ 0 → true ≡ ordered (nth ds) (length ds)
 unfolding ordered
 ordered-none ds h = sym (all-intro _ (length ds - 1) (λ k l. absurd (omega arith)))
 
-pub ordered-fails : (ds : List ℕ) (i : ℕ) → Passed (inOrder ds) i (length ds - 1) → i < length ds - 1 → inOrder ds i ≡ false → false ≡ ordered (nth ds) (length ds)
+pub ordered-fails : (ds : List ℕ) (i : ℕ) → Passed (inOrder (nth ds)) i (length ds - 1) → i < length ds - 1 → inOrder (nth ds) i ≡ false → false ≡ ordered (nth ds) (length ds)
 unfolding ordered
-ordered-fails ds i s l h = passed-fails (inOrder ds) i (length ds - 1) s l h
+ordered-fails ds i s l h = passed-fails (inOrder (nth ds)) i (length ds - 1) s l h
 
-pub ordered-holds : (ds : List ℕ) (i : ℕ) → Passed (inOrder ds) i (length ds - 1) → length ds - 1 ≤ i → true ≡ ordered (nth ds) (length ds)
+pub ordered-holds : (ds : List ℕ) (i : ℕ) → Passed (inOrder (nth ds)) i (length ds - 1) → length ds - 1 ≤ i → true ≡ ordered (nth ds) (length ds)
 unfolding ordered
-ordered-holds ds i s l = passed-holds (inOrder ds) i (length ds - 1) s l
+ordered-holds ds i s l = passed-holds (inOrder (nth ds)) i (length ds - 1) s l
 
 -- ---- entries apart
 
@@ -51,3 +56,57 @@ apart-true ws ds i h = le-leb _ _ h
 pub apart-false : (ws ds : List ℕ) (i : ℕ) → getD ds (i + 1) 0 < getD ds i 0 + getD ws i 0 → apartAt ws ds i ≡ false
 unfolding apartAt
 apart-false ws ds i h = lt-leb _ _ h
+
+-- ---- the entries of a filetype, and of the next tile
+
+module _ (ws ds : List ℕ) (f : ℕ) (k : ListsReady ws ds f) where
+  pub lists-some : 0 < length ws
+  lists-some = k .some
+
+  pub end-fits : (i : ℕ) → i < length ws - 1 → Fits w64 (getD ds i 0 + getD ws i 0)
+  end-fits i l = record { fits = omega (arith, k .ends i (omega arith)) }
+
+  pub end-last : Fits w64 (getD ds (length ws - 1) 0 + getD ws (length ws - 1) 0)
+  end-last = record { fits = omega (arith, k .ends (length ws - 1) (omega (arith, k .some))) }
+
+  pub tile-fits : Fits w64 (getD ds 0 0 + f)
+  tile-fits = record { fits = omega (arith, k .ends 0 (k .some), k .extent) }
+
+pub pair-apart : (ws ds : List ℕ) (f i : ℕ) → i < length ws - 1 → getD ds i 0 + getD ws i 0 ≤ getD ds (i + 1) 0 → apartIn ws ds f i ≡ true
+unfolding apartIn
+pair-apart ws ds f i l h = rw (lt-ltb (i + 1) (length ws) (omega arith)) (le-leb _ _ h)
+
+pub pair-overlaps : (ws ds : List ℕ) (f i : ℕ) → i < length ws - 1 → getD ds (i + 1) 0 < getD ds i 0 + getD ws i 0 → apartIn ws ds f i ≡ false
+unfolding apartIn
+pair-overlaps ws ds f i l h = rw (lt-ltb (i + 1) (length ws) (omega arith)) (lt-leb _ _ h)
+
+module _ (ws ds : List ℕ) (f i : ℕ) (s : Passed (apartIn ws ds f) i (length ws)) where
+  pub pair-more : i < length ws - 1 → apartIn ws ds f i ≡ true → Passed (apartIn ws ds f) (i + 1) (length ws)
+  pair-more l h = passed-more (apartIn ws ds f) i (length ws) s (omega arith) h
+
+  pub overlap-inner : i < length ws - 1 → apartIn ws ds f i ≡ false → i + 1 ≡ laterEntry (leastFalse (apartIn ws ds f) (length ws)) (length ws)
+  unfolding laterEntry
+  overlap-inner l h =
+      let e = passed-stop (apartIn ws ds f) i (length ws) s (omega arith) h in
+      rw (sym e, lt-ltb (i + 1) (length ws) (omega arith))
+
+  module _ (some : 0 < length ws) (l : length ws - 1 ≤ i) (h : i ≤ length ws - 1) where
+    at : i ≡ length ws - 1
+    at = omega arith
+
+    pub overlap-tile : getD ds 0 0 + f < getD ds (length ws - 1) 0 + getD ws (length ws - 1) 0 → length ws - 1 ≡ laterEntry (leastFalse (apartIn ws ds f) (length ws)) (length ws)
+    unfolding laterEntry apartIn
+    overlap-tile o =
+        let e = passed-stop (apartIn ws ds f) i (length ws) s (omega arith) (rw at (over o)) in
+        rw (sym e, le-ltb (i + 1) (length ws) (omega arith)) (sym at)
+      where
+        over : getD ds 0 0 + f < getD ds (length ws - 1) 0 + getD ws (length ws - 1) 0 → apartIn ws ds f (length ws - 1) ≡ false
+        over o = rw (le-ltb (length ws - 1 + 1) (length ws) (omega arith)) (lt-leb _ _ o)
+
+    pub overlap-none : getD ds (length ws - 1) 0 + getD ws (length ws - 1) 0 ≤ getD ds 0 0 + f → length ws ≡ laterEntry (leastFalse (apartIn ws ds f) (length ws)) (length ws)
+    unfolding laterEntry apartIn
+    overlap-none o =
+        let q = passed-more (apartIn ws ds f) i (length ws) s (omega arith) (rw at (rw (le-ltb (length ws - 1 + 1) (length ws) (omega arith)) (le-leb _ _ o))) in
+        let e = passed-end (apartIn ws ds f) (i + 1) (length ws) q (omega arith) in
+        let m : leastFalse (apartIn ws ds f) (length ws) ≡ length ws = omega (arith, e) in
+        rw (m, le-ltb (length ws + 1) (length ws) (omega arith))

@@ -1,11 +1,11 @@
 // Tests of the single rules on a type's lists. The test of a view's record and acceptance are made of these and of the tests on a filetype's origins.
 ghost use mathlib.Core.Path.{_≡_};
-ghost use Prim.Native.Nat.{_≤_, _-_};
+ghost use Prim.Native.Nat.{_≤_, _+_, _-_};
 ghost use lib.ListN.{length};
 ghost use Rattle.laws.specs.Lists.{nth};
-ghost use Rattle.laws.specs.Search.{all};
-ghost use Rattle.view.specs.Parts.{maxEtypeEntries, ordered, EntriesValid};
-ghost use Rattle.rule_entries.specs.Parts.{entryFitsAt, apartAt};
+ghost use Rattle.laws.specs.Search.{leastFalse, all};
+ghost use Rattle.view.specs.Parts.{maxEtypeEntries, inOrder, ordered, EntriesValid, laterEntry};
+ghost use Rattle.rule_entries.specs.Parts.{entryFitsAt, apartAt, apartIn, ListsReady};
 use view::PerEntry;
 
 // Whether each entry of an etype is allowed. For our own crates.
@@ -24,7 +24,27 @@ pub fn entries_fit<'a>(entries: u64, widths: &'a PerEntry, displacements: &'a Pe
     true
 }
 
+// The first entry that lies below the one before it, or a number past the last entry if there is none. For our own crates.
+pub fn first_out_of_order(ds: &[u64]) -> usize
+    ensures { λ r. ⌜ r ≡ leastFalse (inOrder (nth (now (ds .entry)))) (length (now (ds .entry)) - 1) + 1 ⌝ }
+{
+    if ds.len() == 0 {
+        return 1;
+    }
+    let last = ds.len() - 1;
+    let mut i = 0;
+    while i < last {
+        let later = i + 1;
+        if ds[later] < ds[i] {
+            return later;
+        }
+        i += 1;
+    }
+    ds.len()
+}
+
 // Whether displacements never decrease. For our own crates.
+// Check 1 asks this in every call and needs no entry, so it has a loop of its own, which takes fewer instructions than `first_out_of_order`.
 pub fn never_decrease(ds: &[u64]) -> bool
     ensures { λ r. ⌜ r ≡ ordered (nth (now (ds .entry))) (length (now (ds .entry))) ⌝ }
 {
@@ -60,4 +80,27 @@ pub fn entries_apart<'a>(entries: u64, widths: &'a PerEntry, displacements: &'a 
         i += 1;
     }
     true
+}
+
+// The first entry of a filetype that begins before the one before it ends, or the last entry if it reaches into the next tile; the number of entries if there is none. For our own crates.
+pub fn first_overlap(ws: &[u64], ds: &[u64], extent: u64) -> usize
+    requires { ⌜ ListsReady (now ws) (now ds) extent ⌝ }
+    ensures { λ r. ⌜ r ≡ laterEntry (leastFalse (apartIn (now (ws .entry)) (now (ds .entry)) extent) (length (now (ws .entry)))) (length (now (ws .entry))) ⌝ }
+{
+    let last = ws.len() - 1;
+    let mut i = 0;
+    while i < last {
+        let end = ds[i] + ws[i];
+        let next = i + 1;
+        if ds[next] < end {
+            return next;
+        }
+        i += 1;
+    }
+    let end = ds[last] + ws[last];
+    let next_tile = ds[0] + extent;
+    if next_tile < end {
+        return last;
+    }
+    ws.len()
 }

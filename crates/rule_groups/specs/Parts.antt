@@ -6,29 +6,58 @@ use mathlib.Core.Path.{_≡_}
 use lib.Dec.{leb, eqb}
 use lib.IntN.{ℤ, pos}
 use lib.ListN.{length, getD, replicate}
-use Rattle.laws.specs.Checks.{also}
+use Rattle.laws.specs.Checks.{also, check}
 use Rattle.laws.specs.Lists.{nth}
 use Rattle.laws.specs.Parts.{front}
-use Rattle.laws.specs.Search.{all}
+use Rattle.laws.specs.Search.{leastFalse, all}
 use Rattle.view.specs.declared.View.{View}
 use Rattle.view.specs.declared.Numbers.{Numbers}
 use Rattle.view.specs.Parts.{maxEtypeEntries, maxInstances}
 use Rattle.view.specs.Types.{whole}
+use Rattle.rule_groups.specs.declared.GroupFault.{GroupFault}
 
 -- displacement i of a list as a natural number
 unfoldable pub wholeAt : List ℤ → ℕ → ℕ
 wholeAt ds i = whole (getD ds i (pos 0))
 
--- an entry of width w at d is the etype's of width ew at ed, shifted as far as the group's beginning lies from the etype's first entry
+-- ---- the groups of a filetype of widths fw and displacements fd, over an etype of n widths ws and displacements ds
+
+-- an entry of width w at d is the etype's of width ew at ed, shifted as far as the group's beginning lies from the etype's first entry, which may be below it
 unfoldable pub entryShifted : ℕ → ℕ → ℕ → ℕ → ℕ → ℕ → Bool
-entryShifted w d ew ed begin first = also (eqb w ew) (also (leb first begin) (eqb d (ed + (begin - first))))
+entryShifted w d ew ed begin first = also (eqb w ew) (eqb (d + first) (begin + ed))
 
--- entry i of a filetype, over an etype of n widths ws and displacements ds
-unfoldable pub entryMatches : List ℕ → List ℕ → ℕ → List ℕ → List ℕ → ℕ → Bool
-entryMatches ws ds n fw fd i = entryShifted (nth fw i) (nth fd i) (nth ws (i % n)) (nth ds (i % n)) (nth fd (i / n * n)) (nth ds 0)
+module _ (ws ds : List ℕ) (n : ℕ) (fw fd : List ℕ) where
+  -- entry e of group g
+  unfoldable pub matchesAt : ℕ → ℕ → Bool
+  matchesAt g e = entryShifted (nth fw (g * n + e)) (nth fd (g * n + e)) (nth ws e) (nth ds e) (nth fd (g * n)) (nth ds 0)
 
-unfoldable pub groupsMatch : List ℕ → List ℕ → ℕ → List ℕ → List ℕ → Bool
-groupsMatch ws ds n fw fd = also (eqb (length fw % n) 0) (all (entryMatches ws ds n fw fd) (length fw))
+  unfoldable pub groupMatchesAt : ℕ → Bool
+  groupMatchesAt g = all (matchesAt g) n
+
+  unfoldable pub originAt : ℕ → Bool
+  originAt g = leb (nth ds 0) (nth fd (g * n))
+
+  unfoldable pub groupFits : ℕ → Bool
+  groupFits g = also (groupMatchesAt g) (originAt g)
+
+  -- the group that decides: the first that does not fit, or the last one if all do
+  unfoldable pub deciding : ℕ
+  deciding = leastFalse groupFits (length fw / n - 1)
+
+  -- 18 before 19, and the entry that each names; 0 and 0 if neither applies
+  unfoldable pub firstGroupFault : GroupFault
+  firstGroupFault = record {
+    0 = check (groupMatchesAt deciding) 18 (check (originAt deciding) 19 0);
+    1 = check (groupMatchesAt deciding) (deciding * n + leastFalse (matchesAt deciding) n) (check (originAt deciding) (deciding * n) 0);
+  }
+
+-- what this asks: whole groups, at least one, of lists of one length
+pub record GroupsReady (n : ℕ) (fw fd : List ℕ) : Type 0 where
+  pub some : 0 < n
+  pub few : n ≤ maxEtypeEntries
+  pub more : 0 < length fw
+  pub pairs : length fd ≡ length fw
+  pub whole : length fw % n ≡ 0
 
 -- ---- the record of a view
 

@@ -1,16 +1,19 @@
-// The record of a view, made of lent lists, and the test that a filetype is built of the etype.
-// The pub functions are for `accept`, whose checks 4 and 6 meet what is required here.
+// The record of a view, made of lent lists, and the search for the first group that is not the etype's.
+// The pub functions are for `accept`, whose checks 4, 6 and 17 meet what is required here.
 ghost use mathlib.Core.Path.{_≡_};
-ghost use Prim.Native.Nat.{_≤_, _<_, _/_};
+ghost use Prim.Native.Nat.{_≤_, _<_, _/_, _%_};
 ghost use lib.ListN.{length};
 ghost use Rattle.laws.specs.Parts.{front};
 ghost use Rattle.laws.specs.Lists.{nth};
 ghost use Rattle.view.specs.Parts.{maxEtypeEntries};
-ghost use Rattle.rule_groups.specs.Parts.{wholeAt, entryShifted, groupsMatch, groupOrigin, Recordable, viewRecord};
+ghost use Rattle.rule_groups.specs.Parts.{wholeAt, entryShifted, firstGroupFault, GroupsReady, groupOrigin, Recordable, viewRecord};
 use view::Etype;
 use view::Numbers;
 use view::PerEntry;
 use view::View;
+
+// What the groups of a filetype break: the rule's number, 18 or 19, and the entry that it names; 0 and 0 if nothing.
+pub struct GroupFault(pub u64, pub usize);
 
 // Widths, put at the front of `out`.
 fn copy_widths(ws: &[u64], out: &mut [u64])
@@ -37,7 +40,7 @@ pub fn copy_displacements(ds: &[i64], out: &mut [u64])
     }
 }
 
-// Whether an entry of width `w` at `d` is the etype's of width `ew` at `ed`, shifted from `first` to `begin`.
+// Whether an entry of width `w` at `d` is the etype's of width `ew` at `ed`, shifted as far as from `first` to `begin`, which may lie below.
 fn entry_matches(w: u64, d: u64, ew: u64, ed: u64, begin: u64, first: u64) -> bool
     ensures { λ r. ⌜ r ≡ entryShifted w d ew ed begin first ⌝ }
 {
@@ -45,7 +48,11 @@ fn entry_matches(w: u64, d: u64, ew: u64, ed: u64, begin: u64, first: u64) -> bo
         return false;
     }
     if begin < first {
-        return false;
+        let below = first - begin;
+        if ed < d {
+            return false;
+        }
+        return ed - d == below;
     }
     let shift = begin - first;
     if d < ed {
@@ -54,39 +61,46 @@ fn entry_matches(w: u64, d: u64, ew: u64, ed: u64, begin: u64, first: u64) -> bo
     d - ed == shift
 }
 
-// Whether a filetype's entries fall into whole groups, each the etype of these widths and displacements, shifted by one number.
-pub fn groups_match<'a>(
+// The first fault of a filetype's groups, which are whole: group by group, an entry that is not the etype's of these widths and displacements, shifted as its group's first entry is, comes before an origin below 0.
+pub fn first_group_fault<'a>(
     e: Etype,
     widths: &'a PerEntry,
     displacements: &'a PerEntry,
     fw: &[u64],
     fd: &[u64],
-) -> bool
-    requires { ⌜ (0 < e .entries) × (e .entries ≤ maxEtypeEntries) × (length (now fd) ≡ length (now fw)) ⌝ }
-    ensures { λ r. ⌜ r ≡ groupsMatch (now (widths .entry)) (now (displacements .entry)) (e .entries) (now (fw .entry)) (now (fd .entry)) ⌝ }
+) -> GroupFault
+    requires { ⌜ GroupsReady (e .entries) (now fw) (now fd) ⌝ }
+    ensures { λ r. ⌜ r ≡ firstGroupFault (now (widths .entry)) (now (displacements .entry)) (e .entries) (now (fw .entry)) (now (fd .entry)) ⌝ }
 {
     let n = e.entries as usize;
-    if fw.len() % n != 0 {
-        return false;
-    }
-    let mut i = 0;
-    while i < fw.len() {
-        let j = i % n;
-        let group = i / n;
-        let begin = group * n;
-        if !entry_matches(
-            fw[i],
-            fd[i],
-            widths[j],
-            displacements[j],
-            fd[begin],
-            displacements[0],
-        ) {
-            return false;
+    let groups = fw.len() / n;
+    let mut g = 0;
+    'groups: loop {
+        if groups <= g {
+            break 'groups GroupFault(0, 0);
         }
-        i += 1;
+        let begin = g * n;
+        let mut j = 0;
+        while j < n {
+            let i = begin + j;
+            let matches = entry_matches(
+                fw[i],
+                fd[i],
+                widths[j],
+                displacements[j],
+                fd[begin],
+                displacements[0],
+            );
+            if !matches {
+                break 'groups GroupFault(View::REFUSED_GROUP, i);
+            }
+            j += 1;
+        }
+        if fd[begin] < displacements[0] {
+            break 'groups GroupFault(View::REFUSED_ORIGIN, begin);
+        }
+        g += 1;
     }
-    true
 }
 
 // The origin of each group of `n` entries, put at the front of `out`, where the etype begins at `first`.

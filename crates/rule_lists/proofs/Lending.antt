@@ -1,7 +1,9 @@
 -- How the loops of this crate go on, and what the flags of checks 3 to 6 say of the lent lists.
-use Rattle.laws.proofs.Prelude.{ℕ, _^_, _≤_, _<_, _≡_, sym, ap, _∙_, Bool, true, false, not, List, length, getD, ℤ, pos, mag, w64, SFits, toZ, ofZ, hbits, toZ-ofZ, sfits-of, eqb-true, eq-eqb, ne-eqb, also, all, also-inv, also-yes, also-no, unflag-true, unflag-false, Passed, passed-fails, passed-holds}
+use Rattle.laws.proofs.Prelude.{ℕ, _^_, _≤_, _<_, _≡_, sym, ap, _∙_, Bool, true, false, not, List, arith, length, getD, ℤ, pos, mag, w64, SFits, toZ, ofZ, hbits, toZ-ofZ, sfits-of, eqb-true, eq-eqb, ne-eqb, lt-ltb, le-ltb, also, all, leastFalse, least-false-le, also-inv, also-yes, also-no, unflag-true, unflag-false, Passed, passed-fails, passed-holds}
 use Rattle.view.specs.Limits.{extentAllowed, displacementAllowed}
-use Rattle.view.specs.Types.{entries, widthAt}
+use Rattle.view.specs.declared.Named.the-variants.{EtypeEntry, FiletypeEntry}
+use Rattle.view.specs.Types.{entries, widthAt, viewOfLists}
+use Rattle.view.specs.Parts.{limitsEntry, ofBoth, namedBy}
 use Rattle.view.specs.Rules.{nativeName, isNative, entryAllowed, entriesAllowed}
 use Rattle.rule_limits.specs.Parts.{lengthsAllowed, signedEntryFits}
 use Rattle.rule_lists.specs.Parts.{typeOfLists, nativeAt, signedEntryFitsAt}
@@ -70,16 +72,29 @@ module _ (x y : ℤ) (t : Bool) (f : SFits w64 x) (g : SFits w64 y) (e : t ≡ a
   pub extents-no : not t ≡ true → also (extentAllowed x) (extentAllowed y) ≡ false
   extents-no n = unflag-false t _ both n
 
-module _ (ws : List ℕ) (ds : List ℤ) (x : ℤ) (t : Bool) (e : t ≡ all (signedEntryFitsAt ws ds) (length ws)) where
-  lent : t ≡ entriesAllowed (typeOfLists ws ds x)
-  unfolding entriesAllowed entryAllowed entries widthAt signedEntryFitsAt signedEntryFits
-  lent = e
+-- entry i is the first that is not allowed, or all are
+module _ (ws : List ℕ) (ds : List ℤ) (x : ℤ) (i : ℕ) (e : i ≡ leastFalse (signedEntryFitsAt ws ds) (length ws)) where
+  found : i ≡ limitsEntry (typeOfLists ws ds x)
+  unfolding limitsEntry entryAllowed entries widthAt signedEntryFitsAt signedEntryFits
+  found = e
 
-  pub entries-yes : not t ≡ false → entriesAllowed (typeOfLists ws ds x) ≡ true
-  entries-yes n = unflag-true t _ lent n
+  pub entries-yes : length ws ≤ i → entriesAllowed (typeOfLists ws ds x) ≡ true
+  unfolding limitsEntry entriesAllowed all entries
+  entries-yes l = eq-eqb (limitsEntry (typeOfLists ws ds x)) (length ws) (omega (arith, found, least-false-le (entryAllowed (typeOfLists ws ds x)) (length ws)))
 
-  pub entries-no : not t ≡ true → entriesAllowed (typeOfLists ws ds x) ≡ false
-  entries-no n = unflag-false t _ lent n
+  pub entries-no : i < length ws → entriesAllowed (typeOfLists ws ds x) ≡ false
+  unfolding limitsEntry entriesAllowed all entries
+  entries-no l = ne-eqb (limitsEntry (typeOfLists ws ds x)) (length ws) (λ q. omega (arith, found))
+
+-- what check 6 names
+module _ (d : ℤ) (ew : List ℕ) (ed : List ℤ) (ex : ℤ) (fw : List ℕ) (fd : List ℤ) (fx : ℤ) (i : ℕ) (e : i ≡ leastFalse (signedEntryFitsAt ew ed) (length ew)) where
+  pub etype-named : i < length ew → EtypeEntry i ≡ namedBy (viewOfLists d ew ed ex fw fd fx) 6
+  unfolding namedBy ofBoth entries
+  etype-named l = rw (sym (found ew ed ex i e), lt-ltb i (length ew) l)
+
+  pub filetype-named : (j : ℕ) → j ≡ leastFalse (signedEntryFitsAt fw fd) (length fw) → length ew ≤ i → FiletypeEntry j ≡ namedBy (viewOfLists d ew ed ex fw fd fx) 6
+  unfolding namedBy ofBoth entries
+  filetype-named j q l = rw (sym (found ew ed ex i e), sym (found fw fd fx j q), le-ltb i (length ew) l)
 
 module _ (a b c d : ℕ) (t : Bool) (e : t ≡ lengthsAllowed a b c d) (n : not t ≡ false) where
   pub etype-pairs : b ≡ a

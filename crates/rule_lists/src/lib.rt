@@ -2,11 +2,12 @@
 ghost use mathlib.Core.Path.{_≡_};
 ghost use lib.ListN.{length};
 ghost use Rattle.laws.specs.Checks.{also};
-ghost use Rattle.laws.specs.Search.{all};
+ghost use Rattle.laws.specs.Search.{leastFalse};
 ghost use Rattle.view.specs.Limits.{extentAllowed};
 ghost use Rattle.view.specs.Rules.{isNative};
 ghost use Rattle.view.specs.Types.{viewOfLists};
-ghost use Rattle.rule_lists.specs.Parts.{signedEntryFitsAt, limitsRefusal};
+ghost use Rattle.rule_lists.specs.Parts.{signedEntryFitsAt, limitsFault};
+use view::Fault;
 use view::View;
 
 const NATIVE_LENGTH: usize = 6;
@@ -40,24 +41,24 @@ fn extents_allowed(ex: i64, fx: i64) -> bool
     rule_limits::extent_allowed(fx)
 }
 
-// Whether every entry of a type is allowed.
-fn entries_allowed(ws: &[u64], ds: &[i64]) -> bool
+// The first entry of a type that is not allowed, or the number of entries if there is none.
+fn first_not_allowed(ws: &[u64], ds: &[i64]) -> usize
     requires { ⌜ length (now ds) ≡ length (now ws) ⌝ }
-    ensures { λ r. ⌜ r ≡ all (signedEntryFitsAt (now (ws .entry)) (now (ds .entry))) (length (now (ws .entry))) ⌝ }
+    ensures { λ r. ⌜ r ≡ leastFalse (signedEntryFitsAt (now (ws .entry)) (now (ds .entry))) (length (now (ws .entry))) ⌝ }
 {
     let mut i = 0;
     while i < ws.len() {
         if !rule_limits::entry_allowed(ws[i], ds[i]) {
-            return false;
+            return i;
         }
         i += 1;
     }
-    true
+    i
 }
 
-// The refusal number of checks 2 to 6, or 0. For our own crates.
+// What checks 2 to 6 say. Of 6 the etype's first entry that breaks it is named, or, if there is none, the filetype's. For our own crates.
 // `ew`, `ed`, `ex` are the etype's widths, displacements and extent; `fw`, `fd`, `fx` the filetype's.
-pub fn limits_refusal(
+pub fn limits_fault(
     representation: &[u8],
     displacement: i64,
     ew: &[u64],
@@ -66,30 +67,32 @@ pub fn limits_refusal(
     fw: &[u64],
     fd: &[i64],
     fx: i64,
-) -> u64
-    ensures { λ r. ⌜ r ≡ limitsRefusal (now (representation .entry)) (viewOfLists displacement (now (ew .entry)) (now (ed .entry)) ex (now (fw .entry)) (now (fd .entry)) fx) 0 ⌝ }
+) -> Fault
+    ensures { λ r. ⌜ r ≡ limitsFault (now (representation .entry)) (viewOfLists displacement (now (ew .entry)) (now (ed .entry)) ex (now (fw .entry)) (now (fd .entry)) fx) ⌝ }
 {
     let native = is_native(representation);
     let placed = rule_limits::displacement_allowed(displacement);
     let counted = rule_limits::counts_allowed(ew.len(), ed.len(), fw.len(), fd.len());
     let extents = extents_allowed(ex, fx);
     if !native {
-        return View::REFUSED_REPRESENTATION;
+        return Fault::unnamed(View::REFUSED_REPRESENTATION);
     }
     if !placed {
-        return View::REFUSED_DISPLACEMENT;
+        return Fault::unnamed(View::REFUSED_DISPLACEMENT);
     }
     if !counted {
-        return View::REFUSED_ENTRY_COUNT;
+        return Fault::unnamed(View::REFUSED_ENTRY_COUNT);
     }
     if !extents {
-        return View::REFUSED_EXTENT;
+        return Fault::unnamed(View::REFUSED_EXTENT);
     }
-    if !entries_allowed(ew, ed) {
-        return View::REFUSED_ENTRY;
+    let i = first_not_allowed(ew, ed);
+    if i < ew.len() {
+        return Fault::of_etype(View::REFUSED_ENTRY, i);
     }
-    if !entries_allowed(fw, fd) {
-        return View::REFUSED_ENTRY;
+    let j = first_not_allowed(fw, fd);
+    if j < fw.len() {
+        return Fault::of_filetype(View::REFUSED_ENTRY, j);
     }
-    0
+    Fault::unnamed(0)
 }

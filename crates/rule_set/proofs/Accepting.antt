@@ -1,235 +1,204 @@
--- What the code builds is the record of the view, and its checks 7 to 10 are the paper's.
-use Rattle.laws.proofs.Prelude.{ℕ, _+_, _-_, _*_, _/_, _%_, _≤_, _<_, _≡_, refl, sym, ap, _∙_, Bool, true, false, not, List, ⊎-elim, arith, mod-lt, div-mul-le-self, mul-le-mul-right, div-add-mod', eq-zero-or-pos, zero-mul, div-lt-iff-lt-mul, length, take, replicate, length-replicate, ℤ, eqb, getD-take, length-take-le, eqb-true, eq-eqb, leb-true, also, either, check, nth, front, also-inv, within-inv, all-same, times-more, length-store, store-same}
-use Rattle.view.specs.Limits.{etypeEntriesAllowed, filetypeEntriesAllowed}
+-- The checks from 7 on on the record and the lists of natural numbers are the paper's, and they name the same entries.
+use Rattle.laws.proofs.Prelude.{ℕ, _+_, _-_, _*_, _%_, _≤_, _<_, _≡_, refl, sym, ap, _∙_, true, false, not, List, ⊎-elim, arith, length, eqb, lt-ltb, le-ltb, also, either, check, nth, all, all-same, leastFalse, least-false-le, least-false-same, check-step, lt-or-le, run-below}
+use Rattle.view.specs.declared.Named.{Named}
+use Rattle.view.specs.declared.Named.the-variants.{FiletypeEntry}
 use Rattle.view.specs.Types.{PaperView, entries, widthAt, displacementAt, extentOf, whole}
-use Rattle.view.specs.Rules.{paired, typeOrdered, instances, origin, viewHolesFit, apart}
-use Rattle.view.specs.Parts.{ordered, holesFit, entryBuilt, built, recordOf}
-use Rattle.view.specs.Acceptance.{accepted}
+use Rattle.view.specs.Rules.{typeOrdered, wholeGroups, instances, origin, holeAllowed, viewHolesFit, nextBegins, entryApart, apart}
+use Rattle.view.specs.Parts.{inOrder, ordered, holesFit, entryMatches, groupMatches, originAllowed, groupBuilt, decidingGroup, orderEntry, ofBoth, differingEntry, belowEntry, holeNames, holeEntry, laterEntry, overlapEntry, namedBy, faultOf, faultBy, recordOf}
 use Rattle.view.specs.Modes.{allowsWriting}
-use Rattle.view.proofs.Accepted.{rules-accept, type-entry, extent-small}
-use Rattle.view.proofs.Holding.{held-at, record-same}
-use Rattle.rule_view.specs.Parts.{shapeApart}
-use Rattle.rule_view.proofs.Pieces.{holes-same}
-use Rattle.rule_view.proofs.Instances.{apart-same}
-use Rattle.rule_groups.specs.Parts.{wholeAt, entryShifted, entryMatches, groupsMatch, groupOrigin, Recordable, viewRecord}
-use Rattle.rule_set.specs.Parts.{rulesRefusal, Limited, tilesRefusal, shapesRefusal, ShapesReady}
+use Rattle.view.proofs.Accepted.{type-entry, extent-small}
+use Rattle.view.proofs.Groups.{groups-whole, groups-some}
+use Rattle.view.proofs.Holding.{held-at}
+use Rattle.rule_instances.proofs.Holes.{hole-same}
+use Rattle.rule_entries.specs.Parts.{apartIn}
+use Rattle.rule_instances.specs.Parts.{holeFits}
+use Rattle.rule_groups.specs.Parts.{entryShifted, matchesAt, groupMatchesAt, originAt, groupFits, deciding, firstGroupFault}
+use Rattle.view.specs.Acceptance.{viewRefusal}
+use Rattle.rule_lists.proofs.Limiting.{from7}
+use Rattle.rule_set.specs.Parts.{Limited, tilesRefusal, tileNames, groupsRefusal, groupsNames, shapesRefusal, orderNames, shapeNames, shapesFault, ShapesReady}
+use Rattle.rule_set.proofs.Chain.{limited-chain}
+use Rattle.rule_set.proofs.Recording.{naturalsOf, naturals-length, file-counts, file-few, file-at, width-hold, displacement-hold, some, few-etype, few-instances, same-groups}
 
--- ---- what the code builds is the record of the view
-
--- displacements as natural numbers, as the code keeps them
-unfoldable pub naturalsOf : List ℤ → List ℕ
-naturalsOf ds = take (length ds) (front (wholeAt ds) (length ds) (replicate 256 0))
-
-module _ (ds : List ℤ) (few : length ds ≤ 256) where
-  room : length ds ≤ length (front (wholeAt ds) (length ds) (replicate 256 0))
-  room = omega (arith, length-store (λ i. i) (wholeAt ds) (length ds) (replicate 256 0), length-replicate {A = ℕ} 256 0)
-
-  naturals-length : length (naturalsOf ds) ≡ length ds
-  unfolding naturalsOf
-  naturals-length = length-take-le (length ds) _ room
-
-  naturals-at : (i : ℕ) → i < length ds → nth (naturalsOf ds) i ≡ wholeAt ds i
-  unfolding naturalsOf
-  naturals-at i l = getD-take (length ds) _ i 0 l ∙ held-at (wholeAt ds) (length ds) 256 few i l
-
-check-same : (b c : Bool) (k x y : ℕ) → b ≡ c → (c ≡ true → x ≡ y) → check b k x ≡ check c k y
-unfolding check
-check-same b true k x y e h = rw e (h refl)
-check-same b false k x y e h = rw e
+fault-same : (f g : ℕ → Named) (k : ℕ) → f k ≡ g k → faultBy f k ≡ faultBy g k
+unfolding faultBy
+fault-same f g k e = ap (faultOf k) e
 
 module _ (v : PaperView) (lim : Limited v) where
-  counts : (1 ≤ length (v .etype .widths)) × (length (v .etype .widths) ≤ 8)
-  unfolding etypeEntriesAllowed
-  counts = within-inv 1 8 _ (lim .etype-count)
-
-  file-counts : (1 ≤ length (v .filetype .widths)) × (length (v .filetype .widths) ≤ 256) × (length (v .filetype .widths) ≤ 64 * length (v .etype .widths))
-  unfolding filetypeEntriesAllowed
-  file-counts =
-      let a = also-inv _ _ (lim .filetype-count) in
-      let b = within-inv 1 256 _ (a .0) in
-      (b .0, b .1, leb-true _ _ (a .1))
-
-  file-few : length (v .filetype .displacements) ≤ 256
-  file-few = omega (arith, file-counts .1, lim .filetype-pairs)
-
-  pub etype-some : 0 < length (v .etype .widths)
-  etype-some = counts .0
-
-  pub pairs-few : length (v .filetype .displacements) ≤ 256
-  pairs-few = file-few
-
-  -- the displacements of the filetype, as natural numbers
-  file-at : (i : ℕ) → i < length (v .filetype .displacements) → nth (naturalsOf (v .filetype .displacements)) i ≡ displacementAt (v .filetype) i
-  unfolding displacementAt wholeAt
-  file-at i l = naturals-at (v .filetype .displacements) file-few i l
-
-  width-hold : (i : ℕ) → i < entries (v .etype) → nth (recordOf v .widths) i ≡ widthAt (v .etype) i
-  unfolding recordOf entries
-  width-hold i l = held-at (widthAt (v .etype)) (entries (v .etype)) 8 (counts .1) i l
-
-  displacement-hold : (i : ℕ) → i < entries (v .etype) → nth (recordOf v .displacements) i ≡ displacementAt (v .etype) i
-  unfolding recordOf entries
-  displacement-hold i l = held-at (displacementAt (v .etype)) (entries (v .etype)) 8 (counts .1) i l
-
-  some : 0 < entries (v .etype)
-  unfolding entries
-  some = counts .0
-
-  few-etype : entries (v .etype) ≤ 8
-  unfolding entries
-  few-etype = counts .1
-
-  same-groups : length (naturalsOf (v .filetype .displacements)) / entries (v .etype) ≡ instances v
-  unfolding instances entries
-  same-groups = ap (λ (z : ℕ). z / length (v .etype .widths)) (naturals-length (v .filetype .displacements) file-few ∙ sym (lim .filetype-pairs))
-
-  count-groups : length (v .filetype .displacements) / entries (v .etype) ≡ instances v
-  unfolding instances entries
-  count-groups = ap (λ (z : ℕ). z / length (v .etype .widths)) (sym (lim .filetype-pairs))
-
-  group-below : (g : ℕ) → g < instances v → g * entries (v .etype) < length (v .filetype .displacements)
-  unfolding instances entries
-  group-below g l = omega (arith, counts .0, times-more g (length (v .etype .widths)), mul-le-mul-right {m = g + 1} {n = length (v .filetype .widths) / length (v .etype .widths)} (length (v .etype .widths)) (omega arith), div-mul-le-self (length (v .filetype .widths)) (length (v .etype .widths)), lim .filetype-pairs)
-
-  few-instances : instances v ≤ 64
-  unfolding instances entries
-  few-instances =
-      let s : 0 < length (v .etype .widths) = counts .0 in
-      let q : length (v .filetype .widths) < 65 * length (v .etype .widths) = omega (arith, file-counts .2) in
-      let r : length (v .filetype .widths) / length (v .etype .widths) < 65 = div-lt-iff-lt-mul s .1 q in
-      omega arith
-
-  first-at : nth (front (wholeAt (v .etype .displacements)) (length (v .etype .displacements)) (replicate 8 0)) 0 ≡ displacementAt (v .etype) 0
-  unfolding displacementAt wholeAt
-  first-at = held-at (wholeAt (v .etype .displacements)) (length (v .etype .displacements)) 8 (omega (arith, counts .1, lim .etype-pairs)) 0 (omega (arith, counts .0, lim .etype-pairs))
-
-  same-origin : (g : ℕ) → g < instances v → groupOrigin (naturalsOf (v .filetype .displacements)) (entries (v .etype)) (nth (front (wholeAt (v .etype .displacements)) (length (v .etype .displacements)) (replicate 8 0)) 0) g ≡ origin v g
-  unfolding groupOrigin origin
-  same-origin g l = rw (file-at (g * entries (v .etype)) (group-below g l), first-at)
-
-  same-origins : front (groupOrigin (naturalsOf (v .filetype .displacements)) (entries (v .etype)) (nth (front (wholeAt (v .etype .displacements)) (length (v .etype .displacements)) (replicate 8 0)) 0)) (length (naturalsOf (v .filetype .displacements)) / entries (v .etype)) (replicate 64 0) ≡ front (origin v) (instances v) (replicate 64 0)
-  same-origins =
-      ap (λ (z : ℕ). front (groupOrigin (naturalsOf (v .filetype .displacements)) (entries (v .etype)) (nth (front (wholeAt (v .etype .displacements)) (length (v .etype .displacements)) (replicate 8 0)) 0)) z (replicate 64 0)) same-groups
-      ∙ store-same (λ i. i) _ (λ i. i) (origin v) (instances v) (replicate 64 0) (λ k l. refl) same-origin
-
-  pub record-hold : viewRecord (record { displacement = whole (v .displacement); etype = record { entries = length (v .etype .widths); extent = extentOf (v .etype) }; filetype = record { instances = length (v .filetype .displacements) / length (v .etype .widths); extent = extentOf (v .filetype) } }) (v .etype .widths) (v .etype .displacements) (naturalsOf (v .filetype .displacements)) ≡ recordOf v
-  unfolding viewRecord recordOf entries widthAt displacementAt wholeAt
-  record-hold = λ i. record {
-    numbers = record { displacement = whole (v .displacement); etype = record { entries = length (v .etype .widths); extent = extentOf (v .etype) }; filetype = record { instances = count-groups i; extent = extentOf (v .filetype) } };
-    widths = front (nth (v .etype .widths)) (length (v .etype .widths)) (replicate 8 0);
-    displacements = front (wholeAt (v .etype .displacements)) (sym (lim .etype-pairs) i) (replicate 8 0);
-    origins = same-origins i;
-  }
-
-  pub recordable : Recordable (v .etype .widths) (v .etype .displacements) (naturalsOf (v .filetype .displacements))
-  unfolding entries
-  recordable = record { some = counts .0; few = counts .1; pairs = sym (lim .etype-pairs); groups = omega (arith, same-groups, few-instances) }
-
-  -- ---- checks 7 to 10 on the records are those on the lists
-
-  order-same : ordered (nth (recordOf v .displacements)) (entries (v .etype)) ≡ typeOrdered (v .etype)
-  unfolding ordered typeOrdered
-  order-same = all-same _ _ (entries (v .etype) - 1) (λ i l. rw (displacement-hold i (omega arith), displacement-hold (i + 1) (omega arith)))
-
   file-entries : entries (v .filetype) ≡ length (v .filetype .displacements)
   unfolding entries
   file-entries = lim .filetype-pairs
 
-  file-order-same : ordered (nth (naturalsOf (v .filetype .displacements))) (length (naturalsOf (v .filetype .displacements))) ≡ typeOrdered (v .filetype)
+  abbrev fd : List ℕ
+  fd = naturalsOf (v .filetype .displacements)
+
+  fd-length : length fd ≡ entries (v .filetype)
+  fd-length = naturals-length (v .filetype .displacements) (file-few v lim) ∙ sym file-entries
+
+  fd-at : (i : ℕ) → i < entries (v .filetype) → nth fd i ≡ displacementAt (v .filetype) i
+  fd-at i l = file-at v lim i (omega (arith, file-entries))
+
+  -- 7
+
+  etype-order : (i : ℕ) → i < entries (v .etype) - 1 → inOrder (nth (recordOf v .displacements)) i ≡ inOrder (displacementAt (v .etype)) i
+  etype-order i l = rw (displacement-hold v lim i (omega arith), displacement-hold v lim (i + 1) (omega arith))
+
+  file-order : (i : ℕ) → i < entries (v .filetype) - 1 → inOrder (nth fd) i ≡ inOrder (displacementAt (v .filetype)) i
+  file-order i l = rw (fd-at i (omega arith), fd-at (i + 1) (omega arith))
+
+  order-same : ordered (nth (recordOf v .displacements)) (entries (v .etype)) ≡ typeOrdered (v .etype)
   unfolding ordered typeOrdered
-  file-order-same =
-      rw (naturals-length (v .filetype .displacements) file-few, file-entries)
-      (all-same _ _ (length (v .filetype .displacements) - 1) (λ i l. rw (file-at i (omega arith), file-at (i + 1) (omega arith))))
+  order-same = all-same _ _ (entries (v .etype) - 1) etype-order
 
-  entry-same : (i : ℕ) → i < entries (v .filetype) → entryMatches (recordOf v .widths) (recordOf v .displacements) (entries (v .etype)) (v .filetype .widths) (naturalsOf (v .filetype .displacements)) i ≡ entryBuilt v i
-  unfolding entryMatches entryShifted entryBuilt origin widthAt
-  entry-same i l =
-      let m = mod-lt i {m = entries (v .etype)} some in
-      let b = div-mul-le-self i (entries (v .etype)) in
-      let w : nth (recordOf v .widths) (i % entries (v .etype)) ≡ nth (v .etype .widths) (i % entries (v .etype)) = width-hold (i % entries (v .etype)) m in
-      rw (w, file-at i (omega (arith, file-entries)), displacement-hold (i % entries (v .etype)) m, file-at (i / entries (v .etype) * entries (v .etype)) (omega (arith, file-entries)), displacement-hold 0 some)
+  file-order-same : ordered (nth fd) (length fd) ≡ typeOrdered (v .filetype)
+  unfolding ordered typeOrdered
+  file-order-same = rw fd-length (all-same _ _ (entries (v .filetype) - 1) file-order)
 
-  built-same : groupsMatch (recordOf v .widths) (recordOf v .displacements) (entries (v .etype)) (v .filetype .widths) (naturalsOf (v .filetype .displacements)) ≡ built v
-  unfolding groupsMatch built entries
-  built-same = ap (also (eqb (length (v .filetype .widths) % length (v .etype .widths)) 0)) (all-same _ _ (length (v .filetype .widths)) entry-same)
+  etype-entry : leastFalse (inOrder (nth (recordOf v .displacements))) (entries (v .etype) - 1) + 1 ≡ orderEntry (v .etype)
+  unfolding orderEntry
+  etype-entry = ap (λ (z : ℕ). z + 1) (least-false-same _ _ (entries (v .etype) - 1) etype-order)
 
-  -- where the groups are whole, there is an instance, and its origins are held
-  module _ (b : built v ≡ true) where
+  file-entry : leastFalse (inOrder (nth fd)) (length fd - 1) + 1 ≡ orderEntry (v .filetype)
+  unfolding orderEntry
+  file-entry = rw fd-length (ap (λ (z : ℕ). z + 1) (least-false-same _ _ (entries (v .filetype) - 1) file-order))
+
+  names-7 : shapeNames (recordOf v) (v .filetype .widths) fd 7 ≡ namedBy v 7
+  unfolding shapeNames orderNames namedBy ofBoth recordOf
+  names-7 = rw (etype-entry, file-entry)
+
+  -- where the groups are whole there are instances
+  module _ (whole : wholeGroups v ≡ true) where
     more : 0 < instances v
-    unfolding built instances entries
-    more =
-        let e = eqb-true (length (v .filetype .widths) % length (v .etype .widths)) 0 (also-inv _ _ b .0) in
-        ⊎-elim (λ z. absurd (omega (arith, file-counts .0, div-add-mod' (length (v .filetype .widths)) (length (v .etype .widths)), ap (λ (x : ℕ). x * length (v .etype .widths)) z, zero-mul (length (v .etype .widths))))) (λ p. p)
-        (eq-zero-or-pos (length (v .filetype .widths) / length (v .etype .widths)))
+    unfolding entries
+    more = groups-some v whole (file-counts v lim .0)
+
+    -- 18 and 19
+
+    group-in : (g e : ℕ) → g < instances v → e < entries (v .etype) → g * entries (v .etype) + e < entries (v .filetype)
+    group-in g e lg le = omega (arith, run-below (instances v) (entries (v .etype)) g e lg le, groups-whole v whole)
+
+    group-begin : (g : ℕ) → g < instances v → g * entries (v .etype) < entries (v .filetype)
+    group-begin g l = omega (arith, group-in g 0 l (some v lim))
+
+    entry-same : (g : ℕ) → g < instances v → (e : ℕ) → e < entries (v .etype) → matchesAt (recordOf v .widths) (recordOf v .displacements) (entries (v .etype)) (v .filetype .widths) fd g e ≡ entryMatches v g e
+    unfolding matchesAt entryShifted entryMatches widthAt
+    entry-same g lg e le =
+        let w : nth (recordOf v .widths) e ≡ nth (v .etype .widths) e = width-hold v lim e le in
+        rw (w, fd-at (g * entries (v .etype) + e) (group-in g e lg le), displacement-hold v lim e le, fd-at (g * entries (v .etype)) (group-begin g lg), displacement-hold v lim 0 (some v lim))
+
+    group-same : (g : ℕ) → g < instances v → groupMatchesAt (recordOf v .widths) (recordOf v .displacements) (entries (v .etype)) (v .filetype .widths) fd g ≡ groupMatches v g
+    unfolding groupMatchesAt groupMatches
+    group-same g l = all-same _ _ (entries (v .etype)) (entry-same g l)
+
+    origin-same : (g : ℕ) → g < instances v → originAt (recordOf v .widths) (recordOf v .displacements) (entries (v .etype)) (v .filetype .widths) fd g ≡ originAllowed v g
+    unfolding originAt originAllowed
+    origin-same g l = rw (fd-at (g * entries (v .etype)) (group-begin g l), displacement-hold v lim 0 (some v lim))
+
+    deciding-same : deciding (recordOf v .widths) (recordOf v .displacements) (entries (v .etype)) (v .filetype .widths) fd ≡ decidingGroup v
+    unfolding deciding decidingGroup groupFits groupBuilt instances entries
+    deciding-same = least-false-same _ _ (instances v - 1) (λ g l. λ i. also (group-same g (omega arith) i) (origin-same g (omega arith) i))
+
+    deciding-in : decidingGroup v < instances v
+    unfolding decidingGroup
+    deciding-in = omega (arith, more, least-false-le (groupBuilt v) (instances v - 1))
+
+    decided-match : groupMatchesAt (recordOf v .widths) (recordOf v .displacements) (entries (v .etype)) (v .filetype .widths) fd (deciding (recordOf v .widths) (recordOf v .displacements) (entries (v .etype)) (v .filetype .widths) fd) ≡ groupMatches v (decidingGroup v)
+    decided-match = rw deciding-same (group-same (decidingGroup v) deciding-in)
+
+    decided-origin : originAt (recordOf v .widths) (recordOf v .displacements) (entries (v .etype)) (v .filetype .widths) fd (deciding (recordOf v .widths) (recordOf v .displacements) (entries (v .etype)) (v .filetype .widths) fd) ≡ originAllowed v (decidingGroup v)
+    decided-origin = rw deciding-same (origin-same (decidingGroup v) deciding-in)
+
+    differing-same : leastFalse (matchesAt (recordOf v .widths) (recordOf v .displacements) (entries (v .etype)) (v .filetype .widths) fd (decidingGroup v)) (entries (v .etype)) ≡ leastFalse (entryMatches v (decidingGroup v)) (entries (v .etype))
+    differing-same = least-false-same _ _ (entries (v .etype)) (entry-same (decidingGroup v) deciding-in)
+
+    names-18 : groupMatches v (decidingGroup v) ≡ false → shapeNames (recordOf v) (v .filetype .widths) fd 18 ≡ namedBy v 18
+    unfolding shapeNames groupsNames firstGroupFault namedBy differingEntry recordOf check
+    names-18 h = rw (decided-match, h, deciding-same, differing-same)
+
+    names-19 : groupMatches v (decidingGroup v) ≡ true → originAllowed v (decidingGroup v) ≡ false → shapeNames (recordOf v) (v .filetype .widths) fd 19 ≡ namedBy v 19
+    unfolding shapeNames groupsNames firstGroupFault namedBy belowEntry recordOf check
+    names-19 h o = rw (decided-match, decided-origin, h, o, deciding-same)
+
+    -- 9
 
     origin-hold : (g : ℕ) → g < instances v → nth (recordOf v .origins) g ≡ origin v g
     unfolding recordOf
-    origin-hold g l = held-at (origin v) (instances v) 64 few-instances g l
+    origin-hold g l = held-at (origin v) (instances v) 64 (few-instances v lim) g l
+
+    hole-fits : (i : ℕ) → i < instances v + 1 → holeFits (recordOf v .origins) (instances v) (extentOf (v .etype)) (extentOf (v .filetype)) i ≡ holeAllowed v i
+    unfolding holeFits holeAllowed
+    hole-fits i l = rw (hole-same (nth (recordOf v .origins)) (origin v) (instances v) (extentOf (v .etype)) (extentOf (v .filetype)) more origin-hold i l)
 
     view-holes-same : holesFit (nth (recordOf v .origins)) (instances v) (extentOf (v .etype)) (extentOf (v .filetype)) ≡ viewHolesFit v
-    unfolding viewHolesFit holesFit
-    view-holes-same = holes-same (nth (recordOf v .origins)) (origin v) (instances v) (extentOf (v .etype)) (extentOf (v .filetype)) more origin-hold
+    unfolding viewHolesFit holesFit holeFits
+    view-holes-same = all-same (holeFits (recordOf v .origins) (instances v) (extentOf (v .etype)) (extentOf (v .filetype))) (holeAllowed v) (instances v + 1) hole-fits
 
-    -- a view that passed checks 2 to 9 is accepted for reading, so that its record stands for it
-    module _ (o : typeOrdered (v .etype) ≡ true) (fo : typeOrdered (v .filetype) ≡ true) (h : viewHolesFit v ≡ true) where
-      reading : accepted 1 v ≡ true
-      unfolding paired entries either allowsWriting
-      reading = rules-accept 1 v (record {
-        displacement = lim .displacement;
-        etype-paired = eq-eqb _ _ (lim .etype-pairs);
-        filetype-paired = eq-eqb _ _ (lim .filetype-pairs);
-        etype-entries = lim .etype-count;
-        filetype-entries = lim .filetype-count;
-        etype-extent = lim .etype-extent;
-        filetype-extent = lim .filetype-extent;
-        etype-allowed = lim .etype-entries;
-        filetype-allowed = lim .filetype-entries;
-        etype-ordered = o;
-        filetype-ordered = fo;
-        is-built = b;
-        holes = h;
-        overlap = refl;
-      })
+    first-hole-same : leastFalse (holeFits (recordOf v .origins) (instances v) (extentOf (v .etype)) (extentOf (v .filetype))) (instances v + 1) ≡ leastFalse (holeAllowed v) (instances v + 1)
+    first-hole-same = least-false-same _ _ (instances v + 1) hole-fits
 
-      held-some : 0 < recordOf v .numbers .etype .entries
-      unfolding recordOf
-      held-some = some
+    names-9 : shapeNames (recordOf v) (v .filetype .widths) fd 9 ≡ namedBy v 9
+    unfolding shapeNames groupsNames tileNames namedBy holeEntry recordOf entries
+    names-9 = ap (λ (h : ℕ). FiletypeEntry (holeNames (instances v) (length (v .etype .widths)) (length (v .filetype .widths)) h)) first-hole-same
 
-      held-more : 0 < recordOf v .numbers .filetype .instances
-      unfolding recordOf
-      held-more = more
+  -- 10
 
-      view-apart-same : shapeApart (recordOf v .numbers) (recordOf v .widths) (recordOf v .displacements) (recordOf v .origins) ≡ apart v
-      view-apart-same = sym (apart-same (recordOf v) held-some held-more) ∙ ap apart (record-same 1 v reading)
+  apart-at : (i : ℕ) → i < entries (v .filetype) → apartIn (v .filetype .widths) fd (extentOf (v .filetype)) i ≡ entryApart v i
+  unfolding apartIn entryApart nextBegins widthAt entries
+  apart-at i l = ⊎-elim (λ b. rw (lt-ltb (i + 1) (length (v .filetype .widths)) b, fd-at i l, fd-at (i + 1) b)) (λ b. rw (le-ltb (i + 1) (length (v .filetype .widths)) b, fd-at i l, fd-at 0 (file-counts v lim .0))) (lt-or-le (i + 1) (length (v .filetype .widths)))
 
-  pub shapes-same : (mode : ℕ) → shapesRefusal mode (recordOf v) (v .filetype .widths) (naturalsOf (v .filetype .displacements)) ≡ rulesRefusal mode v
-  unfolding shapesRefusal tilesRefusal rulesRefusal recordOf
-  shapes-same mode =
-      check-same _ _ 7 _ _ (λ i. also (order-same i) (file-order-same i)) (λ o.
-      check-same _ _ 8 _ _ built-same (λ b.
-      check-same _ _ 9 _ _ (view-holes-same b) (λ h.
-      check-same _ _ 10 _ _ (ap (either (not (allowsWriting mode))) (view-apart-same b (also-inv _ _ o .0) (also-inv _ _ o .1) h)) (λ p. refl))))
+  apart-same : all (apartIn (v .filetype .widths) fd (extentOf (v .filetype))) (length (v .filetype .widths)) ≡ apart v
+  unfolding apart entries
+  apart-same = all-same _ _ (length (v .filetype .widths)) apart-at
+
+  names-10 : shapeNames (recordOf v) (v .filetype .widths) fd 10 ≡ namedBy v 10
+  unfolding shapeNames groupsNames tileNames namedBy overlapEntry recordOf entries
+  names-10 = ap (λ (i : ℕ). FiletypeEntry (laterEntry i (length (v .filetype .widths)))) (least-false-same _ _ (length (v .filetype .widths)) apart-at)
+
+  names-17 : shapeNames (recordOf v) (v .filetype .widths) fd 17 ≡ namedBy v 17
+  unfolding shapeNames groupsNames tileNames namedBy
+  names-17 = refl
+
+  names-0 : shapeNames (recordOf v) (v .filetype .widths) fd 0 ≡ namedBy v 0
+  unfolding shapeNames groupsNames tileNames namedBy
+  names-0 = refl
+
+  whole-same : eqb (length (v .filetype .widths) % entries (v .etype)) 0 ≡ wholeGroups v
+  unfolding wholeGroups entries
+  whole-same = refl
+
+  shapes-from7 : (mode : ℕ) → shapesFault (recordOf v) (v .filetype .widths) fd mode ≡ faultBy (namedBy v) (from7 mode v)
+  unfolding shapesFault shapesRefusal groupsRefusal tilesRefusal from7 recordOf
+  shapes-from7 mode =
+      let names = shapeNames (recordOf v) (v .filetype .widths) fd in
+      let f = faultBy names in
+      let g = faultBy (namedBy v) in
+      check-step f g _ _ 7 _ _ (λ i. also (order-same i) (file-order-same i)) (λ z. fault-same names (namedBy v) 7 names-7) (λ z.
+      check-step f g _ _ 17 _ _ whole-same (λ y. fault-same names (namedBy v) 17 names-17) (λ whole.
+      check-step f g _ _ 18 _ _ (decided-match whole) (λ x. fault-same names (namedBy v) 18 (names-18 whole x)) (λ m.
+      check-step f g _ _ 19 _ _ (decided-origin whole) (λ x. fault-same names (namedBy v) 19 (names-19 whole m x)) (λ o.
+      check-step f g _ _ 9 _ _ (view-holes-same whole) (λ x. fault-same names (namedBy v) 9 (names-9 whole)) (λ h.
+      check-step f g _ _ 10 _ _ (ap (either (not (allowsWriting mode))) apart-same) (λ x. fault-same names (namedBy v) 10 names-10) (λ p. fault-same names (namedBy v) 0 names-0))))))
+
+  pub shapes-same : (mode : ℕ) → shapesFault (recordOf v) (v .filetype .widths) fd mode ≡ faultBy (namedBy v) (viewRefusal mode v)
+  shapes-same mode = shapes-from7 mode ∙ ap (faultBy (namedBy v)) (limited-chain mode v lim)
 
   -- ---- what the code asks of the records
 
   entry-ends : (i : ℕ) → i < entries (v .etype) → nth (recordOf v .displacements) i + nth (recordOf v .widths) i ≤ 1048576
-  entry-ends i l = omega (arith, width-hold i l, displacement-hold i l, type-entry (v .etype) (lim .etype-entries) i l .1)
+  entry-ends i l = omega (arith, width-hold v lim i l, displacement-hold v lim i l, type-entry (v .etype) (lim .etype-entries) i l .1)
 
-  origin-small : (g : ℕ) → g < instances v → nth (recordOf v .origins) g ≤ 1048576
-  unfolding recordOf origin
-  origin-small g l =
-      let e : nth (front (origin v) (instances v) (replicate 64 0)) g ≡ displacementAt (v .filetype) (g * entries (v .etype)) - displacementAt (v .etype) 0 = held-at (origin v) (instances v) 64 few-instances g l in
-      omega (arith, type-entry (v .filetype) (lim .filetype-entries) (g * entries (v .etype)) (omega (arith, group-below g l, file-entries)) .1)
+  file-ends : (i : ℕ) → i < length (v .filetype .widths) → nth fd i + nth (v .filetype .widths) i ≤ 1048576
+  unfolding entries widthAt
+  file-ends i l = omega (arith, fd-at i l, type-entry (v .filetype) (lim .filetype-entries) i l .1)
 
   pub ready : ShapesReady (recordOf v) (v .filetype .widths) (naturalsOf (v .filetype .displacements))
   unfolding recordOf extentOf
   ready = record {
-    entries = record { some = some; few = few-etype; ends = entry-ends };
+    entries = record { some = (some v lim); few = few-etype v lim; ends = entry-ends };
     extent = extent-small (v .etype .extent) (lim .etype-extent) .0;
-    some = file-counts .0;
-    pairs = naturals-length (v .filetype .displacements) file-few ∙ sym (lim .filetype-pairs);
-    groups = sym same-groups;
-    few = few-instances;
-    small = origin-small;
+    some = file-counts v lim .0;
+    pairs = naturals-length (v .filetype .displacements) (file-few v lim) ∙ sym (lim .filetype-pairs);
+    groups = sym (same-groups v lim);
+    few = (few-instances v lim);
+    ends = file-ends;
     file-extent = extent-small (v .filetype .extent) (lim .filetype-extent) .1;
   }

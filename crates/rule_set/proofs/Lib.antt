@@ -1,4 +1,5 @@
 pub mod Shaping
 pub mod Chain
+pub mod Recording
 pub mod Accepting
 pub mod Answering

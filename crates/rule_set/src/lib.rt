@@ -1,48 +1,54 @@
-// From lent lists to an accepted view, or to the refusal number that document 01 gives them: checks 2 to 10 in its order.
+// From lent lists to an accepted view, or to the refusal number that the papers give them and what it names: checks 2 to 7, 17 to 19, 9 and 10, in this order.
 ghost use mathlib.Core.Path.{_≡_};
 ghost use Rattle.view.specs.Parts.{defaultView, viewWith};
 ghost use Rattle.rule_groups.specs.Parts.{Recordable, viewRecord};
 ghost use Rattle.view.specs.Types.{viewOfLists};
-ghost use Rattle.rule_set.specs.Parts.{AcceptedAs, Limited, tilesRefusal, TilesReady, shapesRefusal, ShapesReady, RecordAccepted, ListsAccepted};
+ghost use Rattle.rule_set.specs.Parts.{AcceptedAs, Limited, tilesFault, TilesReady, groupsFault, shapesFault, ShapesReady, RecordAccepted, ListsAccepted};
 use view::Etype;
+use view::Fault;
 use view::Filetype;
+use view::Named;
 use view::Numbers;
 use view::PerEntry;
 use view::PerInstance;
 use view::View;
 
-// The refusal number of checks 2 to 10, or 0, and the view, the default one if refused.
+// The refusal number of a set's checks from 2 on, or 0, what it names, and the view, the default one if refused.
 pub struct Accepted {
     pub refusal: u64,
+    pub named: Named,
     pub view: View,
 }
 
-// The refusal number of checks 9 and 10, or 0: the holes, and overlap where the mode allows writing.
-fn tiles_refusal<'a>(
-    mode: u64,
-    v: Numbers,
-    widths: &'a PerEntry,
-    displacements: &'a PerEntry,
-    origins: &'a PerInstance,
-) -> u64
-    requires { ⌜ TilesReady v (now widths) (now displacements) (now origins) ⌝ }
-    ensures { λ r. ⌜ r ≡ tilesRefusal mode v (now (widths .entry)) (now (displacements .entry)) (now (origins .entry)) ⌝ }
+// What checks 9 and 10 say: the holes, and overlap where the mode allows writing. The first entry of the group after a hole is named, for the final hole the last entry.
+fn tiles_fault(mode: u64, v: Numbers, origins: &PerInstance, fw: &[u64], fd: &[u64]) -> Fault
+    requires { ⌜ TilesReady v (now fw) (now fd) ⌝ }
+    ensures { λ r. ⌜ r ≡ tilesFault mode v (now (origins .entry)) (now (fw .entry)) (now (fd .entry)) ⌝ }
 {
     let extent = v.filetype.extent;
-    if !rule_instances::holes_fit(v.filetype.instances, origins, extent, v.etype.extent) {
-        return View::REFUSED_HOLE;
+    let n = v.etype.entries as usize;
+    let k = v.filetype.instances as usize;
+    let hole = rule_instances::first_hole(v.filetype.instances, origins, extent, v.etype.extent);
+    if hole < k {
+        let begin = hole * n;
+        return Fault::of_filetype(View::REFUSED_HOLE, begin);
+    }
+    if hole == k {
+        let last = fw.len() - 1;
+        return Fault::of_filetype(View::REFUSED_HOLE, last);
     }
     if !View::allows_writing(mode) {
-        return 0;
+        return Fault::unnamed(0);
     }
-    if !rule_view::shape_apart(v, widths, displacements, origins) {
-        return View::REFUSED_OVERLAP;
+    let later = rule_entries::first_overlap(fw, fd, extent);
+    if later < fw.len() {
+        return Fault::of_filetype(View::REFUSED_OVERLAP, later);
     }
-    0
+    Fault::unnamed(0)
 }
 
-// The refusal number of checks 7 to 10, or 0, on a view's record and the filetype's lists. The order of each type comes before the groups, the groups before the holes.
-fn shapes_refusal<'a>(
+// What checks 17, 18, 19, 9 and 10 say of types in order: whole groups, then group by group, then the holes and overlap.
+fn groups_fault<'a>(
     mode: u64,
     v: Numbers,
     widths: &'a PerEntry,
@@ -50,41 +56,66 @@ fn shapes_refusal<'a>(
     origins: &'a PerInstance,
     fw: &[u64],
     fd: &[u64],
-) -> u64
+) -> Fault
     requires { ⌜ ShapesReady (viewWith v (now widths) (now displacements) (now origins)) (now fw) (now fd) ⌝ }
-    ensures { λ r. ⌜ r ≡ shapesRefusal mode (viewWith v (now (widths .entry)) (now (displacements .entry)) (now (origins .entry))) (now (fw .entry)) (now (fd .entry)) ⌝ }
+    ensures { λ r. ⌜ r ≡ groupsFault (viewWith v (now (widths .entry)) (now (displacements .entry)) (now (origins .entry))) (now (fw .entry)) (now (fd .entry)) mode ⌝ }
+{
+    let n = v.etype.entries as usize;
+    if fw.len() % n != 0 {
+        return Fault::unnamed(View::REFUSED_WHOLE_GROUPS);
+    }
+    let group = rule_groups::first_group_fault(v.etype, widths, displacements, fw, fd);
+    if group.0 != 0 {
+        return Fault::of_filetype(group.0, group.1);
+    }
+    tiles_fault(mode, v, origins, fw, fd)
+}
+
+// What the checks from 7 on say, on a view's record and the filetype's lists. The order of each type comes before the groups; of two entries out of order the later is named.
+fn shapes_fault<'a>(
+    mode: u64,
+    v: Numbers,
+    widths: &'a PerEntry,
+    displacements: &'a PerEntry,
+    origins: &'a PerInstance,
+    fw: &[u64],
+    fd: &[u64],
+) -> Fault
+    requires { ⌜ ShapesReady (viewWith v (now widths) (now displacements) (now origins)) (now fw) (now fd) ⌝ }
+    ensures { λ r. ⌜ r ≡ shapesFault (viewWith v (now (widths .entry)) (now (displacements .entry)) (now (origins .entry))) (now (fw .entry)) (now (fd .entry)) mode ⌝ }
 {
     let used = v.etype.entries as usize;
     let all: &[u64] = displacements;
-    if !rule_entries::never_decrease(&all[..used]) {
-        return View::REFUSED_ORDER;
+    let later = rule_entries::first_out_of_order(&all[..used]);
+    if later < used {
+        return Fault::of_etype(View::REFUSED_ORDER, later);
     }
-    if !rule_entries::never_decrease(fd) {
-        return View::REFUSED_ORDER;
+    let file_later = rule_entries::first_out_of_order(fd);
+    if file_later < fd.len() {
+        return Fault::of_filetype(View::REFUSED_ORDER, file_later);
     }
-    if !rule_groups::groups_match(v.etype, widths, displacements, fw, fd) {
-        return View::REFUSED_GROUPS;
-    }
-    tiles_refusal(mode, v, widths, displacements, origins)
+    groups_fault(mode, v, widths, displacements, origins, fw, fd)
 }
 
 // A refusal, with the default view.
-fn refused(refusal: u64) -> Accepted
-    ensures { λ r. ⌜ (r .refusal ≡ refusal) × (r .view ≡ defaultView) ⌝ }
+fn refused(fault: Fault) -> Accepted
+    ensures { λ r. ⌜ (r .refusal ≡ fault .refusal) × (r .named ≡ fault .named) × (r .view ≡ defaultView) ⌝ }
 {
+    let named = fault.named;
     Accepted {
-        refusal: refusal,
+        refusal: fault.refusal,
+        named: named,
         view: View::linear(),
     }
 }
 
-// The record of a view of these numbers and lent lists, and checks 7 to 10 of it. `fd` are the filetype's displacements as natural numbers.
+// The record of a view of these numbers and lent lists, and the checks from 7 on of it. `fd` are the filetype's displacements as natural numbers.
 fn accept_record(mode: u64, v: Numbers, ew: &[u64], ed: &[i64], fw: &[u64], fd: &[u64]) -> Accepted
     requires { ⌜ Recordable (now ew) (now ed) (now fd) × ShapesReady (viewRecord v (now ew) (now ed) (now fd)) (now fw) (now fd) ⌝ }
     ensures { λ r. ⌜ RecordAccepted mode (viewRecord v (now (ew .entry)) (now (ed .entry)) (now (fd .entry))) (now (fw .entry)) (now (fd .entry)) r ⌝ }
 {
     let view = rule_groups::view_of(v, ew, ed, fd);
-    let rules = shapes_refusal(
+    let rules = shapes_fault(
         mode,
         view.numbers,
         &view.widths,
@@ -93,16 +124,17 @@ fn accept_record(mode: u64, v: Numbers, ew: &[u64], ed: &[i64], fw: &[u64], fd: 
         fw,
         fd,
     );
-    if rules != 0 {
+    if rules.refusal != 0 {
         return refused(rules);
     }
     Accepted {
         refusal: 0,
+        named: Named::Nothing,
         view: view,
     }
 }
 
-// Checks 7 to 10 of lent lists that keep the limits, and the view.
+// The checks from 7 on of lent lists that keep the limits, and the view.
 fn accept_lists(
     mode: u64,
     displacement: i64,
@@ -135,7 +167,7 @@ fn accept_lists(
     accept_record(mode, v, ew, ed, fw, used)
 }
 
-// The view that lent lists make, accepted for a mode exactly if document 01's rules hold, or its refusal number.
+// The view that lent lists make, accepted for a mode exactly if document 01's rules hold, or its refusal number and what this names.
 // `ew`, `ed`, `ex` are the etype's widths, displacements and extent; `fw`, `fd`, `fx` the filetype's.
 pub fn accept(
     mode: u64,
@@ -150,8 +182,8 @@ pub fn accept(
 ) -> Accepted
     ensures { λ r. ⌜ AcceptedAs mode (now (representation .entry)) (viewOfLists displacement (now (ew .entry)) (now (ed .entry)) ex (now (fw .entry)) (now (fd .entry)) fx) r ⌝ }
 {
-    let limits = rule_lists::limits_refusal(representation, displacement, ew, ed, ex, fw, fd, fx);
-    if limits != 0 {
+    let limits = rule_lists::limits_fault(representation, displacement, ew, ed, ex, fw, fd, fx);
+    if limits.refusal != 0 {
         return refused(limits);
     }
     accept_lists(mode, displacement, ew, ed, ex, fw, fd, fx)

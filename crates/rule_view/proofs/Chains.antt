@@ -15,13 +15,6 @@ ordered-prefix ds n t h l =
     h ∙ rw (length-take-le n ds l)
     (all-same _ _ (n - 1) (λ i b. rw (getD-take n ds i 0 (omega arith), getD-take n ds (i + 1) 0 (omega arith))))
 
--- n places of an array
-pub upto : (l : List ℕ) (n m : ℕ) → length l ≡ m → n ≤ m → n ≤ length l
-upto l n m e h = omega arith
-
-pub prefix : (l : List ℕ) (n m : ℕ) → length l ≡ m → n ≤ m → n ≡ length (take n l)
-prefix l n m e h = sym (length-take-le n l (upto l n m e h))
-
 module _ (v : Numbers) (ws ds : List ℕ) (h : etypeAccepted (v .etype) ws ds ≡ true) where
   counts : (1 ≤ v .etype .entries) × (v .etype .entries ≤ 8)
   unfolding etypeAccepted

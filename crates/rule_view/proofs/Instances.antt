@@ -3,40 +3,48 @@ use Rattle.laws.proofs.Prelude.{ℕ, _+_, _-_, _*_, _/_, _%_, _≤_, _<_, _≡_
 use Rattle.view.specs.declared.View.{View}
 use Rattle.view.specs.Limits.{widthAllowed, entryDisplacementAllowed}
 use Rattle.view.specs.Types.{paper, entries, widthAt, displacementAt}
-use Rattle.view.specs.Rules.{entryAllowed, entriesAllowed, typeOrdered, instances, origin, viewHolesFit, nextBegins, entryApart, apart}
-use Rattle.view.specs.Parts.{ordered, holesFit, entryBuilt, built, entryEnd, reachOf}
+use Rattle.view.specs.Rules.{entryAllowed, entriesAllowed, typeOrdered, instances, origin, viewHolesFit, nextBegins, entryApart, apart, IsBuilt}
+use Rattle.view.specs.Parts.{ordered, holesFit, built, entryEnd, reachOf}
 use Rattle.view.proofs.Paper.{paper-entries, paper-file-entries, paper-width, paper-displacement, paper-file-width, paper-file-displacement-read, paper-file-displacement, paper-extent, paper-file-extent, paper-instances, paper-origin}
-use Rattle.view.proofs.Accepted.{type-entry, width-small}
+use Rattle.view.proofs.Accepted.{type-entry, width-small, holes-are}
+use Rattle.view.proofs.Groups.{built-only}
 use Rattle.rule_limits.specs.Parts.{entryFits}
 use Rattle.rule_entries.specs.Parts.{entryFitsAt, apartAt}
 use Rattle.rule_instances.specs.Parts.{reachAt, stepAt, originsStep}
+use Rattle.rule_instances.proofs.Holes.{holes-same}
 use Rattle.rule_view.specs.Parts.{shapeApart}
-use Rattle.rule_view.proofs.Pieces.{holes-same, Linked, inside, across, linked}
+use Rattle.rule_view.proofs.Pieces.{Linked, inside, across, linked}
 
 -- ---- the filetype, where the etype has entries and the filetype instances
 
 module _ (v : View) (some : 0 < v .numbers .etype .entries) (more : 0 < v .numbers .filetype .instances) where
   pub view-holes-same : viewHolesFit (paper v) ≡ holesFit (nth (v .origins)) (v .numbers .filetype .instances) (v .numbers .etype .extent) (v .numbers .filetype .extent)
-  unfolding viewHolesFit holesFit
-  view-holes-same = rw (paper-instances v some, paper-extent v, paper-file-extent v) (holes-same (origin (paper v)) (nth (v .origins)) (v .numbers .filetype .instances) (v .numbers .etype .extent) (v .numbers .filetype .extent) more (paper-origin v some))
+  view-holes-same = holes-are (paper v) ∙ rw (paper-instances v some, paper-extent v, paper-file-extent v) (holes-same (origin (paper v)) (nth (v .origins)) (v .numbers .filetype .instances) (v .numbers .etype .extent) (v .numbers .filetype .extent) more (paper-origin v some))
 
   -- the filetype is built of the etype, by the record's very form
-  entry-built : (i : ℕ) → i < v .numbers .filetype .instances * v .numbers .etype .entries → entryBuilt (paper v) i ≡ true
-  unfolding entryBuilt
-  entry-built i l =
-      let g = runs-below (v .numbers .filetype .instances) (v .numbers .etype .entries) i some l in
-      let m = mod-lt i {m = v .numbers .etype .entries} some in
-      let b = run-below (v .numbers .filetype .instances) (v .numbers .etype .entries) (i / v .numbers .etype .entries) 0 g some in
-      let z : i / v .numbers .etype .entries * v .numbers .etype .entries + 0 ≡ i / v .numbers .etype .entries * v .numbers .etype .entries = add-zero _ in
-      let c : i / v .numbers .etype .entries * v .numbers .etype .entries < v .numbers .filetype .instances * v .numbers .etype .entries = omega arith in
-      let q : displacementAt (paper v .filetype) (i / v .numbers .etype .entries * v .numbers .etype .entries) ≡ nth (v .origins) (i / v .numbers .etype .entries) + nth (v .displacements) 0 = paper-file-displacement v (i / v .numbers .etype .entries * v .numbers .etype .entries) c ∙ rw (mul-div-cancel (i / v .numbers .etype .entries) some, mul-mod-left (i / v .numbers .etype .entries) (v .numbers .etype .entries)) in
-      let x : displacementAt (paper v .etype) 0 ≤ displacementAt (paper v .filetype) (i / v .numbers .etype .entries * v .numbers .etype .entries) = omega (arith, paper-displacement v 0 some) in
-      let y : displacementAt (paper v .filetype) i ≡ displacementAt (paper v .etype) (i % v .numbers .etype .entries) + origin (paper v) (i / v .numbers .etype .entries) = omega (arith, paper-file-displacement v i l, paper-displacement v (i % v .numbers .etype .entries) m, paper-origin v some (i / v .numbers .etype .entries) g) in
-      rw (paper-entries v) (also-true (eq-eqb _ _ (paper-file-width v i l ∙ sym (paper-width v (i % v .numbers .etype .entries) m))) (also-true (le-leb _ _ x) (eq-eqb _ _ y)))
+  shifted : IsBuilt (paper v)
+  shifted = record {
+    groups = v .numbers .filetype .instances;
+    whole-groups = rw (paper-entries v, paper-file-entries v);
+    shift = nth (v .origins);
+    widths = λ g e lg le. entry g e lg (omega (arith, paper-entries v, le)) .0;
+    displacements = λ g e lg le. entry g e lg (omega (arith, paper-entries v, le)) .1;
+  }
+    where
+      entry : (g e : ℕ) → g < v .numbers .filetype .instances → e < v .numbers .etype .entries → (widthAt (paper v .filetype) (g * entries (paper v .etype) + e) ≡ widthAt (paper v .etype) e) × (displacementAt (paper v .filetype) (g * entries (paper v .etype) + e) ≡ displacementAt (paper v .etype) e + nth (v .origins) g)
+      entry g e lg le =
+          let n = v .numbers .etype .entries in
+          let b = run-below (v .numbers .filetype .instances) n g e lg le in
+          let d = run-div n g e le in
+          let m = run-mod n g e le in
+          let w : widthAt (paper v .filetype) (g * n + e) ≡ widthAt (paper v .etype) e = paper-file-width v (g * n + e) b ∙ ap (nth (v .widths)) m ∙ sym (paper-width v e le) in
+          let p : displacementAt (paper v .filetype) (g * n + e) ≡ displacementAt (paper v .etype) e + nth (v .origins) g = omega (arith, paper-file-displacement v (g * n + e) b, ap (nth (v .origins)) d, ap (nth (v .displacements)) m, paper-displacement v e le) in
+          rw (paper-entries v) (w, p)
 
   pub view-built : built (paper v) ≡ true
-  unfolding built
-  view-built = rw (paper-entries v, paper-file-entries v) (also-true (eq-eqb _ 0 (mul-mod-left (v .numbers .filetype .instances) (v .numbers .etype .entries))) (all-intro (entryBuilt (paper v)) (v .numbers .filetype .instances * v .numbers .etype .entries) entry-built))
+  view-built =
+      let some-entries : 0 < entries (paper v .filetype) = omega (arith, paper-file-entries v, run-below (v .numbers .filetype .instances) (v .numbers .etype .entries) 0 0 more some) in
+      built-only (paper v) (omega (arith, some, paper-entries v)) shifted some-entries
 
   -- limits: each entry of each instance ends within them exactly if the farthest of each instance does
   module _ (fits : all (entryFitsAt (v .widths) (v .displacements)) (v .numbers .etype .entries) ≡ true) where

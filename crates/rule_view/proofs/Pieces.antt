@@ -48,17 +48,6 @@ module _ (v : View) where
       rw (paper-entries v)
       (all-same _ _ (v .numbers .etype .entries - 1) (λ i l. rw (paper-displacement v i (omega arith), paper-displacement v (i + 1) (omega arith))))
 
--- ---- holes depend on the origins in use alone
-
-pub hole-same : (p q : ℕ → ℕ) (k e f : ℕ) → 0 < k → ((g : ℕ) → g < k → p g ≡ q g) → (i : ℕ) → i < k + 1 → hole p k e f i ≡ hole q k e f i
-unfolding hole
-hole-same p q k e f s h zero l = h 0 s
-hole-same p q k e f s h (suc i) l = ⊎-elim (λ b. rw (lt-ltb (suc i) k b, h (suc i) b, h i (omega arith))) (λ b. rw (le-ltb (suc i) k b, h i (omega arith))) (lt-or-le (suc i) k)
-
-pub holes-same : (p q : ℕ → ℕ) (k e f : ℕ) → 0 < k → ((g : ℕ) → g < k → p g ≡ q g) → holesFit p k e f ≡ holesFit q k e f
-unfolding holesFit
-holes-same p q k e f s h = all-same _ _ (k + 1) (λ i l. rw (hole-same p q k e f s h i l))
-
 -- ---- entries that follow one another: inside an instance, and from one instance to the next
 
 module _ (p t d : ℕ → ℕ) (n k : ℕ) (some : 0 < n) (more : 0 < k) where

@@ -77,8 +77,8 @@ fn filetype_valid<'a>(
     rule_instances::holes_fit(k, origins, fx, v.etype.extent)
 }
 
-// Whether the entries of a filetype of valid shape are apart, those of the next tile too. For our own crates.
-pub fn shape_apart<'a>(
+// Whether the entries of a filetype of valid shape are apart, those of the next tile too.
+fn shape_apart<'a>(
     v: Numbers,
     widths: &'a PerEntry,
     displacements: &'a PerEntry,

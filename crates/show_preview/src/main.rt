@@ -1,4 +1,4 @@
-// Shows views of document 01 as a planner would look at them: the refusal number of a set, where the first offsets begin, and end of file.
+// Shows views as a planner would look at them: the refusal of a set in words, or where the first offsets begin, and end of file.
 use libc::STDOUT_FILENO;
 use view::Numbers;
 use view::PerEntry;
@@ -38,25 +38,22 @@ fn show_places<'a>(
     io::write_all(STDOUT_FILENO, b"\n");
 }
 
-// Offers a view of words, at these displacements of the filetype, for a mode.
-fn show_words(displacement: i64, ws: &[u64], ds: &[i64], extent: i64, mode: u64, size: u64) {
-    let word = [4u64];
-    let zero = [0i64];
-    let r = rule_set::accept(
-        mode,
-        b"native",
-        displacement,
-        &word,
-        &zero,
-        4,
-        ws,
-        ds,
-        extent,
-    );
+// What is asked of a view: the mode, where it begins in the file, and the size for end of file.
+struct Asked {
+    mode: u64,
+    displacement: i64,
+    size: u64,
+}
+
+// Offers a view for a mode, and prints its refusal, or its places. Widths, displacements and extent of the etype (ew, ed, ex) and of the filetype (fw, fd, fx).
+fn show_view(ew: &[u64], ed: &[i64], ex: i64, fw: &[u64], fd: &[i64], fx: i64, asked: Asked) {
+    let mode = asked.mode;
+    let r = rule_set::accept(mode, b"native", asked.displacement, ew, ed, ex, fw, fd, fx);
     io::write_all(STDOUT_FILENO, b"mode ");
     io::print_decimal(STDOUT_FILENO, mode);
-    io::write_all(STDOUT_FILENO, b": refusal ");
-    io::print_decimal(STDOUT_FILENO, r.refusal);
+    io::write_all(STDOUT_FILENO, b": ");
+    let named = r.named;
+    show_words::print_refusal(r.refusal, named, ew, ed, fw, fd);
     if r.refusal != 0 {
         io::write_all(STDOUT_FILENO, b"\n");
         return;
@@ -69,21 +66,71 @@ fn show_words(displacement: i64, ws: &[u64], ds: &[i64], extent: i64, mode: u64,
         &v.displacements,
         &v.origins,
         mode,
-        size,
+        asked.size,
     );
 }
 
-fn main() {
+// A view whose etype is a word: an entry of width 4 at 0, extent 4.
+fn show_word_view(displacement: i64, ws: &[u64], ds: &[i64], extent: i64, mode: u64, size: u64) {
+    let asked = Asked {
+        mode: mode,
+        displacement: displacement,
+        size: size,
+    };
+    show_view(&[4u64], &[0i64], 4, ws, ds, extent, asked);
+}
+
+// A view from byte 0 on that is refused, for reading and writing.
+fn show_refused(ew: &[u64], ed: &[i64], ex: i64, fw: &[u64], fd: &[i64], fx: i64) {
+    let asked = Asked {
+        mode: View::MODE_BOTH,
+        displacement: 0,
+        size: 0,
+    };
+    show_view(ew, ed, ex, fw, fd, fx, asked);
+}
+
+// Document 01's figures.
+fn figures() {
     let one = [4u64];
     let two = [4u64, 4];
     io::write_all(STDOUT_FILENO, b"P1 (a word at 4 of 12, from byte 100) ");
-    show_words(100, &one, &[4i64], 12, View::MODE_BOTH, 117);
+    show_word_view(100, &one, &[4i64], 12, View::MODE_BOTH, 117);
     io::write_all(STDOUT_FILENO, b"P4 (a word at 2 of 12) ");
-    show_words(0, &one, &[2i64], 12, View::MODE_BOTH, 0);
+    show_word_view(0, &one, &[2i64], 12, View::MODE_BOTH, 0);
     io::write_all(STDOUT_FILENO, b"P6 (words at 0 and 4 of 4) ");
-    show_words(0, &two, &[0i64, 4], 4, View::MODE_READING, 8);
+    show_word_view(0, &two, &[0i64, 4], 4, View::MODE_READING, 8);
     io::write_all(STDOUT_FILENO, b"P6 (words at 0 and 4 of 4) ");
-    show_words(0, &two, &[0i64, 4], 4, View::MODE_WRITING, 8);
+    show_word_view(0, &two, &[0i64, 4], 4, View::MODE_WRITING, 8);
     io::write_all(STDOUT_FILENO, b"P7 (words at 0 and 8 of 4) ");
-    show_words(0, &two, &[0i64, 8], 4, View::MODE_READING, 8);
+    show_word_view(0, &two, &[0i64, 8], 4, View::MODE_READING, 8);
+}
+
+// A view for each rule of a set's lists, from 6 on, that no figure above breaks.
+fn other_rules() {
+    let word = [4u64];
+    let zero = [0i64];
+    let two = [4u64, 4];
+    let pair = [0i64, 4];
+    io::write_all(STDOUT_FILENO, b"a word at -4 of 12, ");
+    show_refused(&word, &zero, 4, &word, &[-4i64], 12);
+    io::write_all(STDOUT_FILENO, b"words at 4 and 0 of 8, ");
+    show_refused(&word, &zero, 4, &two, &[4i64, 0], 8);
+    io::write_all(
+        STDOUT_FILENO,
+        b"words at 0, 4 and 8 of 16, etype words at 0 and 4 of 8, ",
+    );
+    show_refused(&two, &pair, 8, &[4u64, 4, 4], &[0i64, 4, 8], 16);
+    io::write_all(
+        STDOUT_FILENO,
+        b"words at 0, 4, 8 and 16 of 24, etype words at 0 and 4 of 8, ",
+    );
+    show_refused(&two, &pair, 8, &[4u64, 4, 4, 4], &[0i64, 4, 8, 16], 24);
+    io::write_all(STDOUT_FILENO, b"a word at 0 of 8, etype a word at 4 of 8, ");
+    show_refused(&word, &[4i64], 8, &word, &zero, 8);
+}
+
+fn main() {
+    figures();
+    other_rules();
 }

@@ -25,6 +25,12 @@ fn tell(text: &[u8], n: u64) {
     io::print_decimal(STDOUT_FILENO, n);
 }
 
+// Prints a refusal, its number and in words, after a colon.
+fn tell_refusal(refusal: u64) {
+    say(b": ");
+    show_words::print_number_and_rule(refusal);
+}
+
 // A byte as a number.
 fn wide(x: u8) -> u64 {
     x as u64
@@ -44,8 +50,8 @@ fn list(text: &[u8], bytes: &[u8]) {
 // Prints refusal, mode and pointer of an answer.
 fn show_handle(text: &[u8], refusal: u64, h: Handle) {
     say(text);
-    tell(b": refusal ", refusal);
-    tell(b", mode ", h.mode);
+    tell_refusal(refusal);
+    tell(b"; mode ", h.mode);
     tell(b", pointer ", h.pointer);
     say(b"\n");
 }
@@ -53,8 +59,8 @@ fn show_handle(text: &[u8], refusal: u64, h: Handle) {
 // Prints refusal, count, pointer and size of an answer.
 fn show_transfer(text: &[u8], refusal: u64, count: u64, pointer: u64, rec: FileRecord) {
     say(text);
-    tell(b": refusal ", refusal);
-    tell(b", count ", count);
+    tell_refusal(refusal);
+    tell(b"; count ", count);
     tell(b", pointer ", pointer);
     tell(b", size ", rec.size);
     say(b"\n");
@@ -64,8 +70,15 @@ fn show_open(text: &[u8], a: OpenAnswer) {
     show_handle(text, a.refusal, a.handle);
 }
 
-fn show_set(text: &[u8], a: SetViewAnswer) {
-    show_handle(text, a.refusal, a.handle);
+// Prints the refusal of a set in words, with the entry that it names in the lists set, and mode and pointer.
+fn show_set(text: &[u8], a: SetViewAnswer, ew: &[u64], ed: &[i64], fw: &[u64], fd: &[i64]) {
+    say(text);
+    say(b": ");
+    let named = a.named;
+    show_words::print_refusal(a.refusal, named, ew, ed, fw, fd);
+    tell(b"; mode ", a.handle.mode);
+    tell(b", pointer ", a.handle.pointer);
+    say(b"\n");
 }
 
 fn show_seek(text: &[u8], a: SeekAnswer) {
@@ -91,15 +104,15 @@ fn show_type(text: &[u8], shape: TypeShape, width: u64, displacement: i64) {
 // Prints the answer of a reverse lookup.
 fn show_owner(text: &[u8], a: ReverseAnswer) {
     say(text);
-    tell(b": refusal ", a.refusal);
+    tell_refusal(a.refusal);
     let owner = a.owner;
     match owner {
         Owner::Pair(o, index) => {
-            tell(b", offset ", view::natural(o.0));
+            tell(b"; offset ", view::natural(o.0));
             tell(b", index ", index);
         }
         Owner::Nobody => {
-            say(b", none");
+            say(b"; none");
         }
     }
     say(b"\n");
@@ -129,6 +142,14 @@ fn pairs() -> Handle {
     ready
 }
 
+// Opens for reading and writing, sets a view from byte 0 on, and prints the answer.
+fn try_set(text: &[u8], ew: &[u64], ed: &[i64], ex: i64, fw: &[u64], fd: &[i64], fx: i64) {
+    let opened = Handle::open(Handle::MODE_BOTH);
+    let h = opened.handle;
+    let set = h.set_view(b"native", 0, ew, ed, ex, fw, fd, fx);
+    show_set(text, set, ew, ed, fw, fd);
+}
+
 // ---- the examples
 
 // A mode that is granted, no mode, and one that is refused.
@@ -144,22 +165,87 @@ fn set_view() {
     let h = opened.handle;
     let word = [4u64];
     let zero = [0i64];
-    let p1 = h.set_view(b"native", 100, &word, &zero, 4, &word, &[4i64], 12);
-    show_set(b"set_view, P1", p1);
+    let four = [4i64];
+    let p1 = h.set_view(b"native", 100, &word, &zero, 4, &word, &four, 12);
+    show_set(b"set_view, P1", p1, &word, &zero, &word, &four);
     let rec = FileRecord::of_size(0);
     let moved = p1.handle.seek(&[], rec, 5, Handle::SEEK_SET);
     let at5 = moved.handle;
-    let p4 = at5.set_view(b"native", 0, &word, &zero, 4, &word, &[2i64], 12);
-    show_set(b"set_view, P4", p4);
+    let two = [2i64];
+    let p4 = at5.set_view(b"native", 0, &word, &zero, 4, &word, &two, 12);
+    show_set(b"set_view, P4", p4, &word, &zero, &word, &two);
 }
 
 // P6: words at 0 and 4 of 4 overlap between tiles.
 fn set_for(mode: u64) {
     let opened = Handle::open(mode);
     let h = opened.handle;
+    let word = [4u64];
+    let zero = [0i64];
     let words = [4u64, 4];
-    let p6 = h.set_view(b"native", 0, &[4u64], &[0i64], 4, &words, &[0i64, 4], 4);
-    show_set(b"set_view, P6", p6);
+    let places = [0i64, 4];
+    let p6 = h.set_view(b"native", 0, &word, &zero, 4, &words, &places, 4);
+    show_set(b"set_view, P6", p6, &word, &zero, &words, &places);
+}
+
+// 6: the second word of the filetype lies below 0.
+fn set_entry() {
+    let ew = [4u64];
+    let ed = [0i64];
+    let fw = [4u64, 4];
+    let fd = [0i64, -4];
+    try_set(b"set_view, words at 0 and -4", &ew, &ed, 4, &fw, &fd, 12);
+}
+
+// 7: the third word lies below the second.
+fn set_order() {
+    let ew = [4u64];
+    let ed = [0i64];
+    let fw = [4u64, 4, 4];
+    let fd = [0i64, 8, 4];
+    try_set(b"set_view, words at 0, 8 and 4", &ew, &ed, 4, &fw, &fd, 12);
+}
+
+// 17: the etype has two entries, the filetype three.
+fn set_not_whole() {
+    let ew = [4u64, 4];
+    let ed = [0i64, 4];
+    let fw = [4u64, 4, 4];
+    let fd = [0i64, 4, 8];
+    try_set(b"set_view, two words and one", &ew, &ed, 8, &fw, &fd, 16);
+}
+
+// 18: P8 with its last entry at 21. It is shifted by 17, the first entry of its group by 16.
+fn set_group() {
+    let ew = [4u64, 1];
+    let ed = [0i64, 4];
+    let fw = [4u64, 1, 4, 1];
+    let fd = [0i64, 4, 16, 21];
+    try_set(b"set_view, P8 with 21 for 20", &ew, &ed, 8, &fw, &fd, 24);
+}
+
+// 19: the etype's word lies at 4 and the filetype's at 0. The origin is -4.
+fn set_origin() {
+    let word = [4u64];
+    let ed = [4i64];
+    let fd = [0i64];
+    try_set(b"set_view, a word 4 too low", &word, &ed, 8, &word, &fd, 8);
+}
+
+// What a refused set names, as numbers. Both types break rule 6, and the etype is named.
+fn set_named() {
+    let opened = Handle::open(Handle::MODE_BOTH);
+    let h = opened.handle;
+    let three = [3u64];
+    let zero = [0i64];
+    let set = h.set_view(b"native", 0, &three, &zero, 4, &three, &zero, 4);
+    let named = set.named;
+    let told = named.numbers();
+    say(b"set_view, width 3 in both types");
+    tell_refusal(set.refusal);
+    tell(b"; type ", told.kind);
+    tell(b", entry ", told.entry);
+    say(b"\n");
 }
 
 // P1's typemaps come back as they were set.
@@ -170,8 +256,9 @@ fn get_view() {
     let mut fw = [0u64];
     let mut fd = [0i64];
     let back = h.get_view(&mut ew, &mut ed, &mut fw, &mut fd);
-    tell(b"get_view, P1: refusal ", back.refusal);
-    tell(b", displacement ", back.displacement);
+    say(b"get_view, P1");
+    tell_refusal(back.refusal);
+    tell(b"; displacement ", back.displacement);
     show_type(b"\n  etype: entries ", back.etype, ew[0], ed[0]);
     show_type(b"\n  filetype: entries ", back.filetype, fw[0], fd[0]);
     say(b"\n");
@@ -184,8 +271,9 @@ fn get_view_short() {
     let mut fw = [0u64];
     let mut fd = [0i64];
     let back = pairs().get_view(&mut ew, &mut ed, &mut fw, &mut fd);
-    tell(b"get_view, P8, lists of one place: refusal ", back.refusal);
-    tell(b", first width ", ew[0]);
+    say(b"get_view, P8, lists of one place");
+    tell_refusal(back.refusal);
+    tell(b"; first width ", ew[0]);
     say(b"\n");
 }
 
@@ -193,11 +281,13 @@ fn get_view_short() {
 fn byte_offset() {
     let h = slots(100);
     let second = h.byte_offset(Offset(2));
-    tell(b"byte_offset, P1, offset 2: refusal ", second.refusal);
-    tell(b", byte ", second.place.0);
+    say(b"byte_offset, P1, offset 2");
+    tell_refusal(second.refusal);
+    tell(b"; byte ", second.place.0);
     let before = h.byte_offset(Offset(-1));
-    tell(b"\nbyte_offset, P1, offset -1: refusal ", before.refusal);
-    tell(b", byte ", before.place.0);
+    say(b"\nbyte_offset, P1, offset -1");
+    tell_refusal(before.refusal);
+    tell(b"; byte ", before.place.0);
     say(b"\n");
 }
 
@@ -218,8 +308,8 @@ fn end(size: u64) {
     let plan = [0u8; 120];
     let ended = h.end(&plan, FileRecord::of_size(size));
     tell(b"end, P1, size ", size);
-    tell(b": refusal ", ended.refusal);
-    tell(b", end ", view::natural(ended.end.0));
+    tell_refusal(ended.refusal);
+    tell(b"; end ", view::natural(ended.end.0));
     say(b"\n");
 }
 
@@ -329,8 +419,8 @@ fn forge(pointer: u64) {
     };
     let asked = forged.byte_offset(Offset(7));
     tell(b"byte_offset by a handle with pointer ", pointer);
-    tell(b": refusal ", asked.refusal);
-    tell(b", byte ", asked.place.0);
+    tell_refusal(asked.refusal);
+    tell(b"; byte ", asked.place.0);
     say(b"\n");
 }
 
@@ -339,6 +429,12 @@ fn main() {
     set_view();
     set_for(Handle::MODE_WRITING);
     set_for(Handle::MODE_READING);
+    set_entry();
+    set_order();
+    set_not_whole();
+    set_group();
+    set_origin();
+    set_named();
     get_view();
     get_view_short();
     byte_offset();

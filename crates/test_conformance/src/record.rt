@@ -120,9 +120,12 @@ fn set_with(
     let ex = tagged_fields::signed_at(body, 2);
     let fx = tagged_fields::signed_at(body, 3);
     let a = h.set_view(representation, d, ew, ed, ex, fw, fd, fx);
+    let named = a.named;
+    let told = named.numbers();
+    let others = [told.kind, told.entry, 0, 0, 0];
     let sums = list_sums(ew, ed, fw, fd);
     let handle = a.handle;
-    Line::new(a.refusal, a.count, [0u64; 5], handle, rec, sums)
+    Line::new(a.refusal, a.count, others, handle, rec, sums)
 }
 
 // Tag 36: the lists stand one after the other, and what the body has after them is the representation.

@@ -1,13 +1,19 @@
 -- What an accepted view keeps: the rules one by one, and the same as facts on numbers.
-use Rattle.laws.proofs.Prelude.{ℕ, _+_, _*_, _/_, _%_, _≤_, _<_, _≡_, refl, sym, ap, _∙_, true, not, ⊎-elim, arith, div-add-mod', le-of-mul-le-mul-right, mod-lt, eq-zero-or-pos, zero-mul, mul-mod-left, add-zero, getD, ℤ, pos, negsuc, lit<, leb-true, le-leb, eqb-true, eq-eqb, either, check-inv, check-zero, also-true, also-inv, either-inv, within-inv, not-both, all-at, all-intro, run-below, runs-below, run-div, run-mod}
+use Rattle.laws.proofs.Prelude.{ℕ, _+_, _-_, _*_, _/_, _%_, _≤_, _<_, _≡_, refl, sym, ap, _∙_, true, not, ⊎-elim, arith, div-add-mod', le-of-mul-le-mul-right, mod-lt, eq-zero-or-pos, zero-mul, mul-mod-left, mul-div-cancel, add-zero, getD, ℤ, pos, negsuc, lit<, leb-true, le-leb, eqb-true, eq-eqb, either, check-inv, check-zero, also-true, also-inv, either-inv, within-inv, not-both, all-at, all-intro, leastFalse, least-false-le, ends-holds, run-below, runs-below}
 use Rattle.view.specs.Limits.{widthAllowed, etypeEntriesAllowed, filetypeEntriesAllowed, entryDisplacementAllowed, extentAllowed, displacementAllowed}
 use Rattle.view.specs.Types.{PaperType, PaperView, entries, widthAt, displacementAt, extentOf, whole}
-use Rattle.view.specs.Rules.{paired, entryAllowed, entriesAllowed, typeOrdered, instances, origin, IsBuilt, viewHolesFit, apart}
-use Rattle.view.specs.Parts.{entryBuilt, built}
+use Rattle.view.specs.Rules.{paired, entryAllowed, entriesAllowed, typeOrdered, instances, origin, holeAllowed, viewHolesFit, apart}
+use Rattle.view.specs.Parts.{built, holesFit}
 use Rattle.view.specs.Acceptance.{viewRefusal, accepted, Valid}
 use Rattle.view.specs.Modes.{allowsWriting}
+use Rattle.view.proofs.Groups.{built-checks, built-parts, built-groups, group-entry}
 
 -- ---- the rules one by one
+
+-- the holes, over the origins as an index function
+pub holes-are : (v : PaperView) → viewHolesFit v ≡ holesFit (origin v) (instances v) (extentOf (v .etype)) (extentOf (v .filetype))
+unfolding viewHolesFit holeAllowed holesFit
+holes-are v = refl
 
 pub record Rules (mode : ℕ) (v : PaperView) : Type 0 where
   pub displacement : displacementAllowed (v .displacement) ≡ true
@@ -33,8 +39,10 @@ refusal-rules mode v e =
     let c5 = check-inv _ _ _ (lit< tt) (c4 .1) in
     let c6 = check-inv _ _ _ (lit< tt) (c5 .1) in
     let c7 = check-inv _ _ _ (lit< tt) (c6 .1) in
-    let c8 = check-inv _ _ _ (lit< tt) (c7 .1) in
-    let c9 = check-inv _ _ _ (lit< tt) (c8 .1) in
+    let c17 = check-inv _ _ _ (lit< tt) (c7 .1) in
+    let c18 = check-inv _ _ _ (lit< tt) (c17 .1) in
+    let c19 = check-inv _ _ _ (lit< tt) (c18 .1) in
+    let c9 = check-inv _ _ _ (lit< tt) (c19 .1) in
     let c10 = check-inv _ _ _ (lit< tt) (c9 .1) in
     let l1 = also-inv _ _ (c4 .0) in
     let l2 = also-inv _ _ (l1 .1) in
@@ -54,7 +62,7 @@ refusal-rules mode v e =
       filetype-allowed = a .1;
       etype-ordered = o .0;
       filetype-ordered = o .1;
-      is-built = c8 .0;
+      is-built = built-checks v (c17 .0) (c18 .0) (c19 .0);
       holes = c9 .0;
       overlap = c10 .0;
     }
@@ -72,7 +80,8 @@ rules-accept mode v r =
     (check-zero 5 (also-true (r .etype-extent) (r .filetype-extent))
     (check-zero 6 (also-true (r .etype-allowed) (r .filetype-allowed))
     (check-zero 7 (also-true (r .etype-ordered) (r .filetype-ordered))
-    (check-zero 8 (r .is-built) (check-zero 9 (r .holes) (check-zero 10 (r .overlap) refl))))))))
+    (let b = built-parts v (r .is-built) in
+    check-zero 17 (b .0) (check-zero 18 (b .1) (check-zero 19 (b .2) (check-zero 9 (r .holes) (check-zero 10 (r .overlap) refl))))))))))
 
 reading-only : (v : PaperView) → either (not (allowsWriting 1)) (apart v) ≡ true
 unfolding either allowsWriting
@@ -159,62 +168,6 @@ pub record Facts (v : PaperView) : Type 0 where
   -- entry e of instance g is the etype's, shifted by the origin
   pub group-width : (g e : ℕ) → g < instances v → e < entries (v .etype) → widthAt (v .filetype) (g * entries (v .etype) + e) ≡ widthAt (v .etype) e
   pub group-displacement : (g e : ℕ) → g < instances v → e < entries (v .etype) → displacementAt (v .filetype) (g * entries (v .etype) + e) ≡ displacementAt (v .etype) e + origin v g
-
-pub built-entry : (v : PaperView) → built v ≡ true → (i : ℕ) → i < entries (v .filetype) → entryBuilt v i ≡ true
-unfolding built
-built-entry v h i l = all-at (entryBuilt v) (entries (v .filetype)) (also-inv _ _ h .1) i l
-
-pub entry-built-inv : (v : PaperView) (i : ℕ) → entryBuilt v i ≡ true → (widthAt (v .filetype) i ≡ widthAt (v .etype) (i % entries (v .etype))) × (displacementAt (v .filetype) i ≡ displacementAt (v .etype) (i % entries (v .etype)) + origin v (i / entries (v .etype)))
-unfolding entryBuilt
-entry-built-inv v i h =
-    let a = also-inv _ _ h in
-    let b = also-inv _ _ (a .1) in
-    (eqb-true _ _ (a .0), eqb-true _ _ (b .1))
-
-built-groups : (v : PaperView) → built v ≡ true → instances v * entries (v .etype) ≡ entries (v .filetype)
-unfolding built instances
-built-groups v h = omega (arith, div-add-mod' (entries (v .filetype)) (entries (v .etype)), eqb-true (entries (v .filetype) % entries (v .etype)) 0 (also-inv _ _ h .0))
-
-module _ (v : PaperView) (h : built v ≡ true) (g e : ℕ) (lg : g < instances v) (le : e < entries (v .etype)) where
-  group-index : g * entries (v .etype) + e < entries (v .filetype)
-  group-index = omega (arith, run-below (instances v) (entries (v .etype)) g e lg le, built-groups v h)
-
-  group-entry : (widthAt (v .filetype) (g * entries (v .etype) + e) ≡ widthAt (v .etype) e) × (displacementAt (v .filetype) (g * entries (v .etype) + e) ≡ displacementAt (v .etype) e + origin v g)
-  group-entry =
-      let a = entry-built-inv v (g * entries (v .etype) + e) (built-entry v h (g * entries (v .etype) + e) group-index) in
-      let d = run-div (entries (v .etype)) g e le in
-      let m = run-mod (entries (v .etype)) g e le in
-      (rw m at (a .0), rw (d, m) at (a .1))
-
--- the test of the groups says what the paper says of them, and nothing else passes it; the shift is the origin
-pub built-is : (v : PaperView) → built v ≡ true → IsBuilt v
-built-is v h = record {
-  groups = instances v;
-  whole-groups = built-groups v h;
-  shift = origin v;
-  widths = λ g e lg le. group-entry v h g e lg le .0;
-  displacements = λ g e lg le. group-entry v h g e lg le .1;
-}
-
-module _ (v : PaperView) (some : 0 < entries (v .etype)) (b : IsBuilt v) where
-  shift-is : (g : ℕ) → g < b .groups → origin v g ≡ b .shift g
-  unfolding origin
-  shift-is g l = omega (arith, b .displacements g 0 l some, ap (displacementAt (v .filetype)) (add-zero (g * entries (v .etype))))
-
-  entry-shifted : (i : ℕ) → i < entries (v .filetype) → entryBuilt v i ≡ true
-  unfolding entryBuilt
-  entry-shifted i l =
-      let g = runs-below (b .groups) (entries (v .etype)) i some (omega (arith, b .whole-groups)) in
-      let e = mod-lt i {m = entries (v .etype)} some in
-      let q = div-add-mod' i (entries (v .etype)) in
-      let w : widthAt (v .filetype) i ≡ widthAt (v .etype) (i % entries (v .etype)) = ap (widthAt (v .filetype)) (sym q) ∙ b .widths (i / entries (v .etype)) (i % entries (v .etype)) g e in
-      let d : displacementAt (v .filetype) i ≡ displacementAt (v .etype) (i % entries (v .etype)) + origin v (i / entries (v .etype)) = omega (arith, ap (displacementAt (v .filetype)) q, b .displacements (i / entries (v .etype)) (i % entries (v .etype)) g e, shift-is (i / entries (v .etype)) g) in
-      let f : displacementAt (v .etype) 0 ≤ displacementAt (v .filetype) (i / entries (v .etype) * entries (v .etype)) = omega (arith, b .displacements (i / entries (v .etype)) 0 g some, ap (displacementAt (v .filetype)) (add-zero (i / entries (v .etype) * entries (v .etype)))) in
-      also-true (eq-eqb _ _ w) (also-true (le-leb _ _ f) (eq-eqb _ _ d))
-
-  pub built-only : built v ≡ true
-  unfolding built
-  built-only = also-true (eq-eqb _ 0 (ap (λ (z : ℕ). z % entries (v .etype)) (sym (b .whole-groups)) ∙ mul-mod-left (b .groups) (entries (v .etype)))) (all-intro (entryBuilt v) (entries (v .filetype)) entry-shifted)
 
 -- ---- the facts
 

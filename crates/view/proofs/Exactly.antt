@@ -1,12 +1,13 @@
 -- A view is accepted exactly if it keeps the limits and rules as document 01 words them: the chain of checks says neither more nor less.
 -- Rests on the rules one by one, and on the two theorems about the groups (Accepted.antt).
 use Rattle.laws.proofs.Prelude.{ℕ, _<_, _≡_, refl, Bool, true, false, not, arith, eq-eqb, either, check-zero, also-true, also-inv, within-inv}
-use Rattle.view.specs.Limits.{etypeEntriesAllowed}
+use Rattle.view.specs.Limits.{etypeEntriesAllowed, filetypeEntriesAllowed}
 use Rattle.view.specs.Types.{PaperView, entries}
-use Rattle.view.specs.Rules.{apart}
+use Rattle.view.specs.Rules.{countsAllowed, apart}
 use Rattle.view.specs.Acceptance.{IsAccepted, viewRefusal, accepted}
 use Rattle.view.specs.Modes.{allowsWriting}
-use Rattle.view.proofs.Accepted.{rules, writing-apart, built-is, built-only}
+use Rattle.view.proofs.Accepted.{rules, writing-apart}
+use Rattle.view.proofs.Groups.{built-is, built-only, built-parts}
 
 pub accepted-is : (mode : ℕ) (v : PaperView) → accepted mode v ≡ true → IsAccepted mode v
 accepted-is mode v h =
@@ -28,15 +29,18 @@ unfolding either
 overlap-tested true free h = h refl
 overlap-tested false free h = refl
 
--- an etype whose count is allowed has entries
-pub count-some : (n : ℕ) → etypeEntriesAllowed n ≡ true → 0 < n
-unfolding etypeEntriesAllowed
-count-some n h = omega (arith, within-inv 1 8 n h .0)
+-- types whose counts are allowed have entries
+pub counts-some : (v : PaperView) → countsAllowed v ≡ true → (0 < entries (v .etype)) × (0 < entries (v .filetype))
+unfolding etypeEntriesAllowed filetypeEntriesAllowed
+counts-some v h =
+    let c = also-inv _ _ (also-inv _ _ (also-inv _ _ h .1) .1) in
+    (omega (arith, within-inv 1 8 (entries (v .etype)) (c .0) .0), omega (arith, within-inv 1 256 (entries (v .filetype)) (also-inv _ _ (c .1) .0) .0))
 
 pub accepted-only : (mode : ℕ) (v : PaperView) → IsAccepted mode v → accepted mode v ≡ true
 unfolding accepted viewRefusal
 accepted-only mode v a =
-    let some = count-some (entries (v .etype)) (also-inv _ _ (also-inv _ _ (also-inv _ _ (a .counts) .1) .1) .0) in
+    let c = counts-some v (a .counts) in
+    let b = built-parts v (built-only v (c .0) (a .groups) (c .1)) in
     eq-eqb _ 0
     (check-zero 3 (a .displacement) (check-zero 4 (a .counts) (check-zero 5 (a .extents) (check-zero 6 (a .entries) (check-zero 7 (a .ordered)
-    (check-zero 8 (built-only v some (a .groups)) (check-zero 9 (a .holes) (check-zero 10 (overlap-tested (allowsWriting mode) (apart v) (a .overlap)) refl))))))))
+    (check-zero 17 (b .0) (check-zero 18 (b .1) (check-zero 19 (b .2) (check-zero 9 (a .holes) (check-zero 10 (overlap-tested (allowsWriting mode) (apart v) (a .overlap)) refl))))))))))

@@ -5,7 +5,8 @@ use Rattle.view.specs.Types.{PaperType, PaperView, entries, widthAt, dis
 use Rattle.view.specs.Rules.{paired, entryAllowed, entriesAllowed, instances, origin}
 use Rattle.view.specs.Parts.{recordOf}
 use Rattle.view.specs.Acceptance.{accepted}
-use Rattle.view.proofs.Accepted.{Rules, rules, Facts, facts, accepted-valid, built-entry, entry-built-inv, instances-few}
+use Rattle.view.proofs.Accepted.{Rules, rules, Facts, facts, accepted-valid, instances-few}
+use Rattle.view.proofs.Groups.{built-entry}
 
 -- a number that is in range is the natural number taken for it
 pub displacement-whole : (z : ℤ) → displacementAllowed z ≡ true → pos (whole z) ≡ z
@@ -69,7 +70,7 @@ module _ (mode : ℕ) (v : PaperView) (h : accepted mode v ≡ true) where
   -- entry i of the filetype as the record gives it
   module _ (i : ℕ) (l : i < entries (v .filetype)) where
     is-built : (widthAt (v .filetype) i ≡ widthAt (v .etype) (i % entries (v .etype))) × (displacementAt (v .filetype) i ≡ displacementAt (v .etype) (i % entries (v .etype)) + origin v (i / entries (v .etype)))
-    is-built = entry-built-inv v i (built-entry v (r .is-built) i l)
+    is-built = built-entry v (r .is-built) (f .some) i l
 
     entry : i % entries (v .etype) < entries (v .etype)
     entry = mod-lt i {m = entries (v .etype)} (f .some)

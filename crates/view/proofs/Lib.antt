@@ -1,6 +1,9 @@
 pub mod Paper
+pub mod Groups
 pub mod Accepted
 pub mod Exactly
+pub mod FirstEntry
+pub mod Telling
 pub mod Held
 pub mod Packing
 pub mod Injective

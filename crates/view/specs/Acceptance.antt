@@ -1,4 +1,4 @@
--- Must be believed. Document 01, refusals 2 to 10: what a view is refused with, and when it is accepted.
+-- Must be believed. Documents 01 and 02, refusals 2 to 10 and 17 to 19: what a view is refused with, and when it is accepted.
 use Prim.Native.Nat.{ℕ}
 use mathlib.Core.Bool.{Bool, true, not}
 use mathlib.Core.List.{List}
@@ -8,10 +8,10 @@ use Rattle.laws.specs.Checks.{also, either, check}
 use Rattle.view.specs.Limits.{extentAllowed, displacementAllowed}
 use Rattle.view.specs.Modes.{allowsWriting}
 use Rattle.view.specs.Types.{PaperView}
-use Rattle.view.specs.Rules.{isNative, countsAllowed, entriesAllowed, typeOrdered, IsBuilt, viewHolesFit, apart}
-use Rattle.view.specs.Parts.{built}
+use Rattle.view.specs.Rules.{isNative, countsAllowed, entriesAllowed, typeOrdered, wholeGroups, IsBuilt, viewHolesFit, apart}
+use Rattle.view.specs.Parts.{groupMatches, originAllowed, decidingGroup}
 
--- the limits and rules for a mode, as document 01 words them: one field for each of checks 3 to 10
+-- the limits and rules for a mode, as document 01 words them: one field for each of checks 3 to 7, one for 17 to 19, and one for each of 9 and 10
 pub record IsAccepted (mode : ℕ) (v : PaperView) : Type 0 where
   pub displacement : displacementAllowed (v .displacement) ≡ true
   pub counts : countsAllowed v ≡ true
@@ -22,7 +22,7 @@ pub record IsAccepted (mode : ℕ) (v : PaperView) : Type 0 where
   pub holes : viewHolesFit v ≡ true
   pub overlap : allowsWriting mode ≡ true → apart v ≡ true
 
--- refusals 3 to 10 in their order
+-- refusals 3 to 10 in their order; in the place of 8 stand 17 and then, group by group, 18 before 19
 unfoldable pub viewRefusal : ℕ → PaperView → ℕ
 viewRefusal mode v =
     check (displacementAllowed (v .displacement)) 3
@@ -30,10 +30,12 @@ viewRefusal mode v =
     (check (also (extentAllowed (v .etype .extent)) (extentAllowed (v .filetype .extent))) 5
     (check (also (entriesAllowed (v .etype)) (entriesAllowed (v .filetype))) 6
     (check (also (typeOrdered (v .etype)) (typeOrdered (v .filetype))) 7
-    (check (built v) 8
+    (check (wholeGroups v) 17
+    (check (groupMatches v (decidingGroup v)) 18
+    (check (originAllowed v (decidingGroup v)) 19
     (check (viewHolesFit v) 9
     (check (either (not (allowsWriting mode)) (apart v)) 10
-    0)))))))
+    0)))))))))
 
 -- and 2 before them
 unfoldable pub setRefusal : ℕ → List ℕ → PaperView → ℕ

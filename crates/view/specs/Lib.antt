@@ -2,6 +2,7 @@ pub mod Limits
 pub mod Modes
 pub mod Types
 pub mod Rules
+pub mod Named
 pub mod Places
 pub mod Owners
 pub mod End

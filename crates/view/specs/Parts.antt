@@ -1,4 +1,4 @@
--- Need not be believed. What computes where a claim has the property: the test of the groups, the reverse lookup, end of file, a view's record; and what the contracts of inner functions cite.
+-- Need not be believed. What computes where a claim has the property: the test of the groups, what a refused set names, the reverse lookup, end of file, a view's record; and what the contracts of inner functions cite.
 use Prim.Native.Nat.{ℕ, _+_, _-_, _*_, _/_, _%_, _≤_, _<_}
 use mathlib.Core.Bool.{Bool, cond, not}
 use mathlib.Core.List.{List, _∷_}
@@ -12,11 +12,14 @@ use Rattle.laws.specs.Lists.{nth}
 use Rattle.laws.specs.Parts.{front, greatest}
 use Rattle.view.specs.declared.View.{View}
 use Rattle.view.specs.declared.Numbers.{Numbers}
+use Rattle.view.specs.declared.Fault.{Fault}
+use Rattle.view.specs.declared.Named.{Named}
+use Rattle.view.specs.declared.Named.the-variants.{Nothing, EtypeEntry, FiletypeEntry}
 use Rattle.view.specs.declared.Owner.{Owner}
 use Rattle.view.specs.declared.Owner.the-variants.{Pair, Nobody}
 use Rattle.view.specs.Limits.{offsetCount}
-use Rattle.view.specs.Types.{PaperView, paper, entries, widthAt, displacementAt, extentOf, whole}
-use Rattle.view.specs.Rules.{instances, origin, hole}
+use Rattle.view.specs.Types.{PaperType, PaperView, paper, entries, widthAt, displacementAt, extentOf, whole}
+use Rattle.view.specs.Rules.{entryAllowed, wholeGroups, instances, origin, hole, holeAllowed, entryApart}
 use Rattle.view.specs.Places.{packedBefore, dataSize, byteOf}
 
 -- ---- numbers of the table of limits, as inner contracts cite them
@@ -42,25 +45,97 @@ maxExtent = 1048576
 abbrev pub maxDisplacement : ℕ
 maxDisplacement = 1099511627776
 
--- ---- the groups, of which the property is `IsBuilt`
+-- ---- the groups, of which the properties are `IsBuilt`, `FirstDiffering` and `FirstBelow`
 
--- entry i of the filetype is entry i mod n of the etype, shifted by the origin of its group, which is at least 0
-unfoldable pub entryBuilt : PaperView → ℕ → Bool
-entryBuilt v i =
-    let n = entries (v .etype) in
-    also (eqb (widthAt (v .filetype) i) (widthAt (v .etype) (i % n)))
-    (also (leb (displacementAt (v .etype) 0) (displacementAt (v .filetype) (i / n * n)))
-    (eqb (displacementAt (v .filetype) i) (displacementAt (v .etype) (i % n) + origin v (i / n))))
+-- entry e of group g has the width of the etype's entry e, and the shift of its group's first entry
+unfoldable pub entryMatches : PaperView → ℕ → ℕ → Bool
+entryMatches v g e =
+    let i = g * entries (v .etype) in
+    also (eqb (widthAt (v .filetype) (i + e)) (widthAt (v .etype) e))
+    (eqb (displacementAt (v .filetype) (i + e) + displacementAt (v .etype) 0) (displacementAt (v .filetype) i + displacementAt (v .etype) e))
 
--- the filetype's entries fall into whole groups of n, each built so
+unfoldable pub groupMatches : PaperView → ℕ → Bool
+groupMatches v g = all (entryMatches v g) (entries (v .etype))
+
+-- the origin of group g is at least 0
+unfoldable pub originAllowed : PaperView → ℕ → Bool
+originAllowed v g = leb (displacementAt (v .etype) 0) (displacementAt (v .filetype) (g * entries (v .etype)))
+
+unfoldable pub groupBuilt : PaperView → ℕ → Bool
+groupBuilt v g = also (groupMatches v g) (originAllowed v g)
+
+-- the group that decides checks 18 and 19: the first that is not built of the etype, or the last one if all are
+unfoldable pub decidingGroup : PaperView → ℕ
+decidingGroup v = leastFalse (groupBuilt v) (instances v - 1)
+
+-- checks 17, 18 and 19 pass
 unfoldable pub built : PaperView → Bool
-built v = also (eqb (entries (v .filetype) % entries (v .etype)) 0) (all (entryBuilt v) (entries (v .filetype)))
+built v = also (wholeGroups v) (also (groupMatches v (decidingGroup v)) (originAllowed v (decidingGroup v)))
+
+-- ---- what a refused set names, of which the property is `Names`
+
+-- 6: the first entry whose width or displacement is not allowed
+unfoldable pub limitsEntry : PaperType → ℕ
+limitsEntry t = leastFalse (entryAllowed t) (entries t)
+
+-- displacement i of d is not above the next one
+abbrev pub inOrder : (ℕ → ℕ) → ℕ → Bool
+inOrder d i = leb (d i) (d (i + 1))
+
+-- 7: the first entry that lies below the one before it
+unfoldable pub orderEntry : PaperType → ℕ
+orderEntry t = leastFalse (inOrder (displacementAt t)) (entries t - 1) + 1
+
+-- of 6 and 7: the etype's entry, or the filetype's if the etype's is none
+unfoldable pub ofBoth : (PaperType → ℕ) → PaperView → Named
+ofBoth entry v = cond (ltb (entry (v .etype)) (entries (v .etype))) (EtypeEntry (entry (v .etype))) (FiletypeEntry (entry (v .filetype)))
+
+-- 18: the first entry of the deciding group that differs; 19: its first entry
+unfoldable pub differingEntry : PaperView → ℕ
+differingEntry v = decidingGroup v * entries (v .etype) + leastFalse (entryMatches v (decidingGroup v)) (entries (v .etype))
+
+unfoldable pub belowEntry : PaperView → ℕ
+belowEntry v = decidingGroup v * entries (v .etype)
+
+-- 9: of k groups of n entries, m in all, the first entry of the group after hole h, and the last entry for the final hole
+unfoldable pub holeNames : ℕ → ℕ → ℕ → ℕ → ℕ
+holeNames k n m h = cond (ltb h k) (h * n) (m - 1)
+
+unfoldable pub holeEntry : PaperView → ℕ
+holeEntry v = holeNames (instances v) (entries (v .etype)) (entries (v .filetype)) (leastFalse (holeAllowed v) (instances v + 1))
+
+-- of entry i of m and the next one the later; the last one has none after it
+unfoldable pub laterEntry : ℕ → ℕ → ℕ
+laterEntry i m = cond (ltb (i + 1) m) (i + 1) i
+
+-- 10: the first entry that begins before the one before it ends, or the last one
+unfoldable pub overlapEntry : PaperView → ℕ
+overlapEntry v = laterEntry (leastFalse (entryApart v) (entries (v .filetype))) (entries (v .filetype))
+
+-- by the refusal number
+unfoldable pub namedBy : PaperView → ℕ → Named
+namedBy v n =
+    cond (eqb n 6) (ofBoth limitsEntry v)
+    (cond (eqb n 7) (ofBoth orderEntry v)
+    (cond (eqb n 18) (FiletypeEntry (differingEntry v))
+    (cond (eqb n 19) (FiletypeEntry (belowEntry v))
+    (cond (eqb n 9) (FiletypeEntry (holeEntry v))
+    (cond (eqb n 10) (FiletypeEntry (overlapEntry v))
+    Nothing)))))
+
+-- a refusal number and what it names
+abbrev pub faultOf : ℕ → Named → Fault
+faultOf n named = record { refusal = n; named = named }
+
+-- refusal number n with what `names` says of it
+unfoldable pub faultBy : (ℕ → Named) → ℕ → Fault
+faultBy names n = faultOf n (names n)
 
 -- ---- rules over index functions, as they are tested on a record and on lent lists
 
 -- n displacements d never decrease
 unfoldable pub ordered : (ℕ → ℕ) → ℕ → Bool
-ordered d n = all (λ i. leb (d i) (d (i + 1))) (n - 1)
+ordered d n = all (inOrder d) (n - 1)
 
 -- each hole of k instances with origins p is a multiple of e
 unfoldable pub holesFit : (ℕ → ℕ) → ℕ → ℕ → ℕ → Bool

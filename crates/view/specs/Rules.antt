@@ -55,6 +55,10 @@ instances v = entries (v .filetype) / entries (v .etype)
 unfoldable pub origin : PaperView → ℕ → ℕ
 origin v i = displacementAt (v .filetype) (i * entries (v .etype)) - displacementAt (v .etype) 0
 
+-- the entry count is a multiple of the etype's
+unfoldable pub wholeGroups : PaperView → Bool
+wholeGroups v = eqb (entries (v .filetype) % entries (v .etype)) 0
+
 -- the entries fall into k whole groups of n; each group has the etype's widths and the etype's displacements shifted by one number, at least 0
 pub record IsBuilt (v : PaperView) : Type 0 where
   pub groups : ℕ
@@ -70,9 +74,13 @@ unfoldable pub hole : (ℕ → ℕ) → ℕ → ℕ → ℕ → ℕ → ℕ
 hole p k e f zero = p 0
 hole p k e f (suc i) = cond (ltb (suc i) k) (p (suc i)) f - p i - e
 
--- each is a multiple of E
+-- the hole before instance i is a multiple of E
+unfoldable pub holeAllowed : PaperView → ℕ → Bool
+holeAllowed v i = eqb (hole (origin v) (instances v) (extentOf (v .etype)) (extentOf (v .filetype)) i % extentOf (v .etype)) 0
+
+-- each hole is
 unfoldable pub viewHolesFit : PaperView → Bool
-viewHolesFit v = all (λ i. eqb (hole (origin v) (instances v) (extentOf (v .etype)) (extentOf (v .filetype)) i % extentOf (v .etype)) 0) (instances v + 1)
+viewHolesFit v = all (holeAllowed v) (instances v + 1)
 
 -- ---- Overlap
 

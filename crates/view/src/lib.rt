@@ -1,6 +1,7 @@
-// A file view: displacement, etype and filetype, as MPI defines it, with its limits, the refusal numbers and the default view; the modes are in mode.rt, what an etype's lists add up to in totals.rt.
+// A file view: displacement, etype and filetype, as MPI defines it, with its limits, the refusal numbers and the default view; the modes are in mode.rt, what a refused set names in naming.rt, what an etype's lists add up to in totals.rt.
 // What a view means (document 01's rules, places, belonging and end of file) is in specs/.
 mod mode;
+mod naming;
 mod totals;
 
 ghost use mathlib.Core.Path.{_≡_};
@@ -82,6 +83,25 @@ impl Owner {
     }
 }
 
+// What a refused set names: nothing, or an entry of the etype or of the filetype, counted from 0.
+pub enum Named {
+    Nothing,
+    EtypeEntry(u64),
+    FiletypeEntry(u64),
+}
+
+// The numbers of what is named: the kind of type (0 for none, 1 for the etype, 2 for the filetype) and the entry, 0 where there is none.
+pub struct NamedNumbers {
+    pub kind: u64,
+    pub entry: u64,
+}
+
+// What a set's checks from 2 on say of a view: the refusal number, 0 if there is none, and what it names.
+pub struct Fault {
+    pub refusal: u64,
+    pub named: Named,
+}
+
 impl View {
     // Document 01's table of limits.
     pub const WIDTH_1: u64 = 1;
@@ -123,7 +143,7 @@ impl View {
 
     pub const MAX_FILE_SIZE: u64 = 1099511627776;
 
-    // Document 01's refusal numbers, in its order.
+    // The refusal numbers of documents 01 and 02, in their order.
     pub const REFUSED_HANDLE: u64 = 1;
 
     pub const REFUSED_REPRESENTATION: u64 = 2;
@@ -137,8 +157,6 @@ impl View {
     pub const REFUSED_ENTRY: u64 = 6;
 
     pub const REFUSED_ORDER: u64 = 7;
-
-    pub const REFUSED_GROUPS: u64 = 8;
 
     pub const REFUSED_HOLE: u64 = 9;
 
@@ -155,6 +173,13 @@ impl View {
     pub const REFUSED_WHENCE: u64 = 15;
 
     pub const REFUSED_OPEN_MODE: u64 = 16;
+
+    // Of order 1, in the place of 8.
+    pub const REFUSED_WHOLE_GROUPS: u64 = 17;
+
+    pub const REFUSED_GROUP: u64 = 18;
+
+    pub const REFUSED_ORIGIN: u64 = 19;
 
     // The linear byte stream: displacement 0, both types one entry of width 1 at 0 with extent 1.
     pub fn linear() -> View

@@ -1,4 +1,4 @@
--- `accept` goes along the chain: checks 2 to 6, then 7 to 10. Assumes nothing.
+-- `accept` goes along the chain: checks 2 to 6, then those from 7 on. Assumes nothing.
 use borrow.Author.Needs.{needs}
 use Rattle.rule_set.proofs.Answering.{refused-limits, limits-leave, accepted-shaped}
 use Rattle.rule_set.proofs.accept.Statement.{statement}

@@ -1,11 +1,11 @@
--- `accept_record` makes the record and follows checks 7 to 10. Assumes nothing.
+-- `accept_record` makes the record and follows the checks from 7 on. Assumes nothing.
 use borrow.Author.Needs.{needs}
 use Rattle.rule_set.proofs.Answering.{record-ready, record-refused, record-granted}
 use Rattle.rule_set.proofs.accept_record.Statement.{statement}
 use Rattle.rule_set.proofs.accept_record.Tie as tie
 
-shapes-refusal-requires : tie.Need-shapes-refusal-requires
-shapes-refusal-requires c κs = search record-ready
+shapes-fault-requires : tie.Need-shapes-fault-requires
+shapes-fault-requires c κs = search record-ready
 
 returns : tie.Need-returns
 returns c = search record-refused
@@ -16,4 +16,4 @@ returns-2 c = search record-granted
 pub accept-record-spec : {M : Type 1} → statement M
 accept-record-spec =
     tie.close
-    (tie.spec (λ c κs. search needs) shapes-refusal-requires (λ c κs. search needs) returns returns-2)
+    (tie.spec (λ c κs. search needs) shapes-fault-requires (λ c κs. search needs) returns returns-2)

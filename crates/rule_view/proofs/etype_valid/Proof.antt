@@ -1,7 +1,7 @@
 -- `etype_valid` follows the definition along its tests. Assumes nothing.
 use Rattle.rule_view.specs.Parts.{etypeAccepted}
-use Rattle.rule_view.proofs.Chains.{ordered-prefix, upto, prefix}
-use Rattle.laws.proofs.Prelude.{needs, unflag-true, unflag-false, also-yes, also-no, within-yes, within-low, within-high}
+use Rattle.rule_view.proofs.Chains.{ordered-prefix}
+use Rattle.laws.proofs.Prelude.{needs, unflag-true, unflag-false, also-yes, also-no, within-yes, within-low, within-high, prefix, upto}
 use Rattle.rule_view.proofs.etype_valid.Statement.{statement}
 use Rattle.rule_view.proofs.etype_valid.Tie as tie
 

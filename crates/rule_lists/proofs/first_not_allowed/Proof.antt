@@ -1,9 +1,9 @@
--- `entries_allowed` passes the entries in order and leaves at the first that is not allowed. Assumes nothing.
-use Rattle.laws.proofs.Prelude.{_-_, _≡_, arith, length, Passed, passed-none, passed-fails, passed-more, passed-holds}
+-- `first_not_allowed` passes the entries in order and leaves at the first that is not allowed. Assumes nothing.
+use Rattle.laws.proofs.Prelude.{_-_, _≡_, arith, length, Passed, passed-none, passed-stop, passed-more, passed-end}
 use Rattle.rule_lists.specs.Parts.{signedEntryFitsAt}
 use Rattle.rule_lists.proofs.Lending.{lent-no, lent-yes}
-use Rattle.rule_lists.proofs.entries_allowed.Statement.{statement}
-use Rattle.rule_lists.proofs.entries_allowed.Tie as tie
+use Rattle.rule_lists.proofs.first_not_allowed.Statement.{statement}
+use Rattle.rule_lists.proofs.first_not_allowed.Tie as tie
 
 abbrev Inv-loop : tie.InvT-loop
 Inv-loop ws ds i₀ i = (length ds ≡ length ws) × Passed (signedEntryFitsAt ws ds) i (length ws)
@@ -15,16 +15,16 @@ loop-holds : tie.Need-loop-holds Inv-loop μ-loop
 loop-holds c = search passed-none
 
 returns : tie.Need-returns Inv-loop μ-loop
-returns c = search (passed-fails, lent-no)
+returns c = search (passed-stop, lent-no)
 
 loop-again : tie.Need-loop-again Inv-loop μ-loop
 loop-again c = search (passed-more, lent-yes)
 
 returns-2 : tie.Need-returns-2 Inv-loop μ-loop
-returns-2 c = search passed-holds
+returns-2 c = search passed-end
 
-pub entries-allowed-spec : {M : Type 1} → statement M
-entries-allowed-spec =
+pub first-not-allowed-spec : {M : Type 1} → statement M
+first-not-allowed-spec =
     tie.close
     (tie.spec
     Inv-loop
