@@ -18,7 +18,9 @@ loop-holds : tie.Need-loop-holds Inv-loop μ-loop
 loop-holds c = search passed-none
 
 returns-2 : tie.Need-returns-2 Inv-loop μ-loop
-returns-2 c = search (below-found, out-of-order)
+returns-2 c =
+    let ds = c .before .before .before .before .before .before .args .ds .now in
+    below-found ds _ (c .before .before .before .before .loop .inv) (c .before .before .before .loop-test .taken) (out-of-order ds _ (c .if2 .taken))
 
 loop-again : tie.Need-loop-again Inv-loop μ-loop
 loop-again c = search (passed-more, in-order)

@@ -21,7 +21,9 @@ add-end : tie.Need-add-end Inv-loop μ-loop
 add-end c = search end-fits
 
 returns : tie.Need-returns Inv-loop μ-loop
-returns c = search (overlap-inner, pair-overlaps)
+returns c =
+    let in-loop = c .before .before .before .before in
+    overlap-inner _ _ _ _ (in-loop .before .loop .inv .5) (in-loop .loop-test .taken) (pair-overlaps _ _ _ _ (in-loop .loop-test .taken) (c .if1 .taken))
 
 loop-again : tie.Need-loop-again Inv-loop μ-loop
 loop-again c = search (needs, pair-more, pair-apart)

@@ -94,10 +94,16 @@ returns : tie.Need-returns Inv-loop μ-loop Inv-groups μ-groups
 returns c = search (fault-none, ready-groups)
 
 returns-2 : tie.Need-returns-2 Inv-loop μ-loop Inv-groups μ-groups
-returns-2 c = search (fault-entry, entry-no)
+returns-2 c =
+    let in-loop = c .before .before .before .before .before .before .before .before in
+    let v = in-loop .before .loop .inv in
+    fault-entry _ _ _ _ _ _ (v .5) (v .3) _ (v .6) (in-loop .loop-test .taken) (entry-no _ _ _ _ _ _ _ _ (c .before .entry-matches .ensures) (c .if2 .taken))
 
 returns-3 : tie.Need-returns-3 Inv-loop μ-loop Inv-groups μ-groups
-returns-3 c = search fault-origin
+returns-3 c =
+    let past = c .before .before .before in
+    let v = past .before .loop .inv in
+    fault-origin _ _ _ _ _ _ (v .5) (v .3) _ (v .6) (past .loop-test .left) (c .if3 .taken)
 
 pub first-group-fault-spec : {M : Type 1} → statement M
 first-group-fault-spec =

@@ -8,10 +8,10 @@ mul-begin : tie.Need-mul-begin
 mul-begin c = search hole-begins
 
 returns : tie.Need-returns
-returns c = search inner-hole
+returns c = inner-hole _ _ _ _ _ (c .before .before .first-hole .ensures) _ _ (c .before .if1 .taken) (c .of-filetype .ensures)
 
 returns-2 : tie.Need-returns-2
-returns-2 c = search final-hole
+returns-2 c = final-hole _ _ _ _ _ (c .before .before .before .first-hole .ensures) _ _ (c .before .if2 .taken) (c .of-filetype2 .ensures)
 
 returns-3 : tie.Need-returns-3
 returns-3 c = search overlap-unasked
