@@ -1,40 +1,11 @@
--- The view set: the lists of a body as the code decodes them, and the calls with them.
-use Rattle.laws.proofs.Prelude.{ℕ, _+_, _-_, _*_, _^_, _≤_, _<_, min, _≡_, ap, _∙_, List, arith, length, take, drop, replicate, length-replicate, ℤ, pos, mag, w64, toZ, ofZ, hbits, tabulate, front, tail-lent, front-part}
-use Rattle.tagged_fields.specs.Parts.{numberAt, signedAt, numberFrom, signedFrom}
-use Rattle.tagged_fields.proofs.Bytes.{signed-read}
-use Rattle.view.specs.Types.{viewOfLists}
+-- The set before the first round.
+use Rattle.laws.proofs.Prelude.{ℕ, _≡_, ap, _∙_, List}
+use Rattle.set_record.specs.Sets.{viewIn, representationIn}
 use Rattle.file.specs.declared.OpenAnswer.{OpenAnswer}
 use Rattle.file.specs.declared.SetViewAnswer.{SetViewAnswer}
 use Rattle.file.specs.Parts.{openAnswer, setViewAnswer}
-use Rattle.bench_rounds.specs.Parts.{listLength, listStart, widthsIn, displacementsIn, bodyView, viewIn, representationIn, setFresh, bodySet}
+use Rattle.bench_rounds.specs.Parts.{bodySet}
 
-pub list-length-is : (body : List ℕ) (i x r : ℕ) → x ≡ numberAt body i → r ≡ min x 300 → (r ≡ listLength body i) × (r ≤ 300)
-unfolding listLength
-list-length-is body i x r e h = (h ∙ ap (λ (z : ℕ). min z 300) e, omega arith)
-
--- ---- the calls, with four lists
-
-pub set-lists-is : (body : List ℕ) (rest : ℕ) (ew : List ℕ) (ed : List ℤ) (fw : List ℕ) (fd : List ℤ) (d ex fx : ℤ) (opened : OpenAnswer) (r : SetViewAnswer) → mag d < 2 ^ hbits w64 → mag ex < 2 ^ hbits w64 → mag fx < 2 ^ hbits w64 → d ≡ signedAt body 1 → ex ≡ signedAt body 2 → fx ≡ signedAt body 3 → opened ≡ openAnswer 3 → r ≡ setViewAnswer (opened .handle) (take (length body - rest) (drop rest body)) (viewOfLists (toZ w64 (ofZ w64 d)) ew ed (toZ w64 (ofZ w64 ex)) fw fd (toZ w64 (ofZ w64 fx))) → r ≡ setFresh (drop rest body) (bodyView body ew ed fw fd)
-unfolding setFresh bodyView
-set-lists-is body rest ew ed fw fd d ex fx opened r fd' fex ffx ed' eex efx eo e =
-    let pd = signed-read d (signedAt body 1) fd' ed' in
-    let px = signed-read ex (signedAt body 2) fex eex in
-    let pf = signed-read fx (signedAt body 3) ffx efx in
-    let pr = tail-lent rest body in
-    e ∙ (λ i. setViewAnswer (eo i .handle) (pr i) (viewOfLists (pd i) ew ed (px i) fw fd (pf i)))
-
--- ---- the lists of a body
-
--- a list stored at the front of an array
-stored-part : {A : Type 0} (f : ℕ → A) (n : ℕ) (x : A) (l : List A) → n ≤ 300 → l ≡ front f n (replicate 300 x) → take n l ≡ tabulate f n
-stored-part f n x l h e = ap (take n) e ∙ front-part f n x (replicate 300 x) (omega (arith, length-replicate 300 x))
-
-pub set-view-is : (body : List ℕ) (n1 n2 n3 n4 rest : ℕ) (ew : List ℕ) (ed : List ℤ) (fw : List ℕ) (fd : List ℤ) (r : SetViewAnswer) → (n1 ≡ listLength body 4) × (n1 ≤ 300) → (n2 ≡ listLength body 5) × (n2 ≤ 300) → (n3 ≡ listLength body 6) × (n3 ≤ 300) → (n4 ≡ listLength body 7) × (n4 ≤ 300) → drop rest body ≡ drop (8 * (8 + n1 + n2 + n3 + n4)) body → ew ≡ front (numberFrom body 8) n1 (replicate 300 0) → ed ≡ front (signedFrom body (8 + n1)) n2 (replicate 300 (pos 0)) → fw ≡ front (numberFrom body (8 + n1 + n2)) n3 (replicate 300 0) → fd ≡ front (signedFrom body (8 + n1 + n2 + n3)) n4 (replicate 300 (pos 0)) → r ≡ setFresh (drop rest body) (bodyView body (take n1 ew) (take n2 ed) (take n3 fw) (take n4 fd)) → r ≡ bodySet body
-unfolding bodySet viewIn representationIn widthsIn displacementsIn listStart
-set-view-is body n1 n2 n3 n4 rest ew ed fw fd r h1 h2 h3 h4 er eew eed efw efd e =
-    let a = stored-part (numberFrom body 8) n1 0 ew (h1 .1) eew in
-    let b = stored-part (signedFrom body (8 + n1)) n2 (pos 0) ed (h2 .1) eed in
-    let c = stored-part (numberFrom body (8 + n1 + n2)) n3 0 fw (h3 .1) efw in
-    let d = stored-part (signedFrom body (8 + n1 + n2 + n3)) n4 (pos 0) fd (h4 .1) efd in
-    e ∙ (λ i. setFresh (er i) (bodyView body (a i) (b i) (c i) (d i)))
-    ∙ (λ i. setFresh (drop (8 * (8 + h1 .0 i + h2 .0 i + h3 .0 i + h4 .0 i)) body) (bodyView body (tabulate (numberFrom body 8) (h1 .0 i)) (tabulate (signedFrom body (8 + h1 .0 i)) (h2 .0 i)) (tabulate (numberFrom body (8 + h1 .0 i + h2 .0 i)) (h3 .0 i)) (tabulate (signedFrom body (8 + h1 .0 i + h2 .0 i + h3 .0 i)) (h4 .0 i))))
+pub body-set-is : (body : List ℕ) (opened : OpenAnswer) (r : SetViewAnswer) → opened ≡ openAnswer 3 → r ≡ setViewAnswer (opened .handle) (representationIn body) (viewIn body) → r ≡ bodySet body
+unfolding bodySet
+body-set-is body opened r eo e = e ∙ ap (λ (o : OpenAnswer). setViewAnswer (o .handle) (representationIn body) (viewIn body)) eo

@@ -1,57 +1,22 @@
 -- Need not be believed: no claim cites it. What the benchmark's functions answer and leave.
-use Prim.Native.Nat.{ℕ, zero, suc, _+_, _*_, min}
+use Prim.Native.Nat.{ℕ, zero, suc}
 use mathlib.Core.List.{List}
 use mathlib.Core.Path.{_≡_}
 use lib.IntN.{ℤ}
-use lib.ListN.{drop, length}
+use lib.ListN.{length}
 use Rattle.laws.specs.Checks.{granted}
-use Rattle.laws.specs.Lists.{tabulate}
-use Rattle.view.specs.Types.{PaperView, viewOfLists}
 use Rattle.handle.specs.declared.FileRecord.{FileRecord}
 use Rattle.bench_rounds.specs.declared.Last.{Last}
 use Rattle.file.specs.Parts.{openAnswer, setViewAnswer, readAtAnswer, readBuffer, writeAtAnswer, writtenFile}
 use Rattle.file.specs.declared.Handle.{Handle}
 use Rattle.file.specs.declared.SetViewAnswer.{SetViewAnswer}
-use Rattle.tagged_fields.specs.Parts.{numberBytes, numberAt, signedAt, numberFrom, signedFrom}
-
--- ---- the body of a record of tag 36, as docs/conformance.md has it: "slot, view displacement *, etype extent *, filetype extent *, then four counts: etype widths, etype displacements,
--- filetype widths, filetype displacements; then these four lists in this order, the displacements signed *; all body bytes after them are the representation"
-
--- the length of a list, counted at number i: "The four counts of a set are cut to 300"
-unfoldable pub listLength : List ℕ → ℕ → ℕ
-listLength body i = min (numberAt body i) 300
-
--- the number at which list k begins, counted at number 4 + k: the first after the counts, and "each list begins right after the counted numbers of the one before". List 4 would begin after them all
-unfoldable pub listStart : List ℕ → ℕ → ℕ
-listStart body zero = 8
-listStart body (suc k) = listStart body k + listLength body (4 + k)
-
--- list k, of widths or of displacements
-unfoldable pub widthsIn : List ℕ → ℕ → List ℕ
-widthsIn body k = tabulate (numberFrom body (listStart body k)) (listLength body (4 + k))
-
-unfoldable pub displacementsIn : List ℕ → ℕ → List ℤ
-displacementsIn body k = tabulate (signedFrom body (listStart body k)) (listLength body (4 + k))
-
--- the view of four lists, with the displacement and the extents of the body
-unfoldable pub bodyView : List ℕ → List ℕ → List ℤ → List ℕ → List ℤ → PaperView
-bodyView body ew ed fw fd = viewOfLists (signedAt body 1) ew ed (signedAt body 2) fw fd (signedAt body 3)
-
-unfoldable pub viewIn : List ℕ → PaperView
-viewIn body = bodyView body (widthsIn body 0) (displacementsIn body 1) (widthsIn body 2) (displacementsIn body 3)
-
-unfoldable pub representationIn : List ℕ → List ℕ
-representationIn body = drop (numberBytes * listStart body 4) body
+use Rattle.set_record.specs.Sets.{viewIn, representationIn}
 
 -- ---- before the first round
 
--- an open with mode 3, and a set of this view
-unfoldable pub setFresh : List ℕ → PaperView → SetViewAnswer
-setFresh representation v = setViewAnswer (openAnswer 3 .handle) representation v
-
--- and of the view that the body describes
+-- an open with mode 3, and a set of the view that the body describes
 unfoldable pub bodySet : List ℕ → SetViewAnswer
-bodySet body = setFresh (representationIn body) (viewIn body)
+bodySet body = setViewAnswer (openAnswer 3 .handle) (representationIn body) (viewIn body)
 
 -- what this set leaves to the first round, with a file of this size
 unfoldable pub afterSet : List ℕ → ℕ → Last

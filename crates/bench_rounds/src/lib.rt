@@ -1,19 +1,11 @@
 // Reads and writes in rounds, for a host program that measures them: a handle is opened, a view set, and the same access made again and again at one explicit offset.
 // The view comes as the body of a record of tag 36 (docs/conformance.md), and the answer is the refusal number of the set or of the access that ended the rounds, 0 if all were granted.
 ghost use mathlib.Core.Path.{_≡_};
-ghost use Prim.Native.Nat.{_≤_};
-ghost use lib.ListN.{length, drop};
-ghost use Rattle.bench_rounds.specs.Parts.{listLength, bodyView, setFresh, bodySet, afterSet, readRounds, writeRounds, Left};
+ghost use Rattle.bench_rounds.specs.Parts.{bodySet, afterSet, readRounds, writeRounds, Left};
 use file::FileRecord;
 use file::Handle;
 use file::SetViewAnswer;
 use view::Offset;
-
-// How many numbers of a body stand before its lists.
-const FIRST_NUMBERS: usize = 8;
-
-// The longest list.
-const LONGEST_LIST: u64 = 300;
 
 // What the set or a round leaves to the next round. It is no answer's type, so that the two loops share it.
 struct Last {
@@ -22,55 +14,13 @@ struct Last {
     file: FileRecord,
 }
 
-// The length of the list that number `i` of a body counts.
-fn list_length(body: &[u8], i: usize) -> usize
-    ensures { λ r. ⌜ (r ≡ listLength (now (body .entry)) i) × (r ≤ 300) ⌝ }
-{
-    let n = tagged_fields::number(body, i);
-    laws::smaller(n, LONGEST_LIST) as usize
-}
-
-// Opens a handle with mode 3 and sets the view of four lists; the representation begins at byte `rest` of the body.
-fn set_lists(
-    body: &[u8],
-    rest: usize,
-    ew: &[u64],
-    ed: &[i64],
-    fw: &[u64],
-    fd: &[i64],
-) -> SetViewAnswer
-    requires { ⌜ rest ≤ length (now body) ⌝ }
-    ensures { λ r. ⌜ r ≡ setFresh (drop rest (now (body .entry))) (bodyView (now (body .entry)) (now (ew .entry)) (now (ed .entry)) (now (fw .entry)) (now (fd .entry))) ⌝ }
-{
-    let d = tagged_fields::signed_at(body, 1);
-    let ex = tagged_fields::signed_at(body, 2);
-    let fx = tagged_fields::signed_at(body, 3);
-    let opened = Handle::open(Handle::MODE_BOTH);
-    let fresh = opened.handle;
-    fresh.set_view(&body[rest..], d, ew, ed, ex, fw, fd, fx)
-}
-
 // Opens a handle with mode 3 and sets the view that the body describes.
 fn set_view(view: &[u8]) -> SetViewAnswer
     ensures { λ r. ⌜ r ≡ bodySet (now (view .entry)) ⌝ }
 {
-    let n1 = list_length(view, 4);
-    let n2 = list_length(view, 5);
-    let n3 = list_length(view, 6);
-    let n4 = list_length(view, 7);
-    let second = FIRST_NUMBERS + n1;
-    let third = second + n2;
-    let fourth = third + n3;
-    let rest = tagged_fields::bytes_after(view, fourth + n4);
-    let mut ew = [0u64; LONGEST_LIST as usize];
-    let mut ed = [0i64; LONGEST_LIST as usize];
-    let mut fw = [0u64; LONGEST_LIST as usize];
-    let mut fd = [0i64; LONGEST_LIST as usize];
-    tagged_fields::numbers_into(view, FIRST_NUMBERS, n1, &mut ew);
-    tagged_fields::signed_into(view, second, n2, &mut ed);
-    tagged_fields::numbers_into(view, third, n3, &mut fw);
-    tagged_fields::signed_into(view, fourth, n4, &mut fd);
-    set_lists(view, rest, &ew[..n1], &ed[..n2], &fw[..n3], &fd[..n4])
+    let opened = Handle::open(Handle::MODE_BOTH);
+    let fresh = opened.handle;
+    set_record::set_view(fresh, view)
 }
 
 // A handle with the view set and a file record of this size, for the first round.

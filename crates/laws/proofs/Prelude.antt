@@ -25,7 +25,7 @@ unfoldable pub use Rattle.laws.specs.Lists.{nth, tabulate}
 pub use Rattle.laws.proofs.Booleans.{Passes, check-here, check-past, check-step, also-false, also-first, also-inv, also-no, also-true, also-yes, check-inv, check-no, check-passes, check-yes, check-zero, cond-no, cond-yes, either-else, either-inv, either-left, either-no, either-right, either-yes, ends-here, eq-or-ne, granted-no, granted-yes, iff, lt-or-le, not-both, tests, unflag-false, unflag-true, within-high, within-inv, within-low, within-yes}
 pub use Rattle.laws.proofs.Searching.{Passed, all-below, all-fails, all-reaches, ends-first, ends-holds, ends-last, first-false, first-found, first-one, least-false-same, not-false-true, not-true-false, all-at, all-intro, all-same, least-false-breaks, least-false-is, least-false-keeps, least-false-le, passed-end, passed-fails, passed-holds, passed-more, passed-none, passed-stop}
 pub use Rattle.laws.proofs.Quotients.{next-in, next-over, run-below, run-div, run-mod, runs-below, times-more}
-pub use Rattle.laws.proofs.Stores.{front-at, front-past, length-store, length-tabulate, store-at, store-end, store-more, store-none, store-other, store-same, storing, tabulate-at, tabulate-is, tabulate-same}
+pub use Rattle.laws.proofs.Stores.{front-at, front-past, length-store, length-tabulate, store-at, store-end, store-more, store-none, store-other, store-same, storing, tabulate-add, tabulate-at, tabulate-is, tabulate-same}
 pub use Rattle.laws.proofs.Sums.{Highest, greatest-above, greatest-least, greatest-one, greatest-same, highest-end, highest-more, highest-none, total-more, total-most, total-part, total-same}
 pub use Rattle.laws.proofs.Runs.{front-part, prefix, store-run, tail-back, tail-lent, take-front, upto}
 pub use Rattle.laws.proofs.Signs.{minus-negative, natural-fits, natural-sign, not-negative}

@@ -1,9 +1,9 @@
 -- Laws of `tabulate` and `store`.
 use Prim.Native.Nat.{ℕ, zero, suc, _+_, _≤_, _<_}
-use mathlib.Core.List.{List}
+use mathlib.Core.List.{List, _∷_, _++_}
 use mathlib.Core.Logic.{⊎-elim, _≢_}
 use mathlib.Core.Path.{_≡_, refl, sym, ap, _∙_, subst}
-use native.Mathlib.Nat.{eq-or-lt-of-le}
+use native.Mathlib.Nat.{eq-or-lt-of-le, zero-add, suc-add}
 use native.Mathlib.Numerals.{add-one}
 use native.Mathlib.Omega.{arith}
 use borrow.Author.Needs.{needs}
@@ -34,6 +34,12 @@ tabulate-same f g (suc n) h =
 -- a list is the table of its elements
 pub tabulate-is : {A : Type 0} (f : ℕ → A) (n : ℕ) (d : A) (l : List A) → length l ≡ n → ((i : ℕ) → i < n → f i ≡ getD l i d) → tabulate f n ≡ l
 tabulate-is f n d l e h = ext-getD d (tabulate f n) l (length-tabulate f n ∙ sym e) (λ i q. let b : i < n = omega (arith, length-tabulate f n) in tabulate-at f n i d b ∙ h i b)
+
+-- a list of a elements, then b more
+pub tabulate-add : {A : Type 0} (f : ℕ → A) (a b : ℕ) → tabulate f (a + b) ≡ tabulate f a ++ tabulate (λ k. f (a + k)) b
+unfolding tabulate
+tabulate-add f zero b = rw zero-add (tabulate-same f (λ k. f (0 + k)) b (λ i l. ap f (sym (zero-add i))))
+tabulate-add f (suc a) b = rw suc-add (ap (λ l. f 0 ∷ l) (tabulate-add (λ k. f (suc k)) a b ∙ ap (λ l. tabulate (λ k. f (suc k)) a ++ l) (tabulate-same (λ k. f (suc (a + k))) (λ k. f (suc a + k)) b (λ i l. ap f (sym (suc-add a i))))))
 
 -- ---- stores
 

@@ -2,7 +2,7 @@
 use Rattle.laws.proofs.Prelude.{ℕ, zero, suc, _+_, _-_, _*_, _/_, _^_, _≤_, _<_, min, _≡_, refl, sym, ap, _∙_, subst, true, List, ⊎-elim, arith, pow-suc, pow-le-pow-right, length, drop, drop-of-length-le, List·getD-eq-default, ℤ, pos, negsuc, _-ℤ_, mag, w64, Fits, SFits, toZ, ofZ, hbits, toZ-pos, toZ-ofZ, needs, sfits-of, lt-ltb, le-ltb, le-leb, lt-leb, nth, either-left, either-right, either-no, lt-or-le}
 use Rattle.tagged_fields.specs.declared.Field.the-variants.{Whole, Cut, End}
 use Rattle.tagged_fields.specs.Fields.{little, bodyLength, isCut, fieldAt}
-use Rattle.tagged_fields.specs.Parts.{numberAt, signedOf}
+use Rattle.tagged_fields.specs.Numbers.{numberAt, signedOf}
 
 -- ---- past the end
 

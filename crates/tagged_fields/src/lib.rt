@@ -4,7 +4,7 @@ ghost use Prim.Native.Nat.{_+_, _*_, _^_, _≤_, _<_, min};
 ghost use lib.ListN.{length};
 ghost use Rattle.laws.specs.Lists.{nth};
 ghost use Rattle.laws.specs.Parts.{front};
-ghost use Rattle.tagged_fields.specs.Parts.{numberBytes, numberAt, signedOf, signedAt, numberFrom, signedFrom};
+ghost use Rattle.tagged_fields.specs.Numbers.{numberBytes, numberAt, signedOf, signedAt, numberFrom, signedFrom};
 ghost use Rattle.tagged_fields.specs.Fields.{little, fieldAt};
 
 // What stands at a place: a whole field, with its tag and where its body begins and how long it is; one that is cut short; or the end of the run.

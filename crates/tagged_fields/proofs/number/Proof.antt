@@ -1,5 +1,5 @@
 -- `number` reads 8 bytes from 8·i on; past the end there are none. Assumes nothing.
-use Rattle.tagged_fields.specs.Parts.{numberAt}
+use Rattle.tagged_fields.specs.Numbers.{numberAt}
 use Rattle.tagged_fields.proofs.Bytes.{number-past}
 use borrow.Author.Needs.{needs}
 use Rattle.tagged_fields.proofs.number.Statement.{statement}

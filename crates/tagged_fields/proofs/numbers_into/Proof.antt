@@ -1,6 +1,6 @@
 -- `numbers_into` stores each number at its index. Assumes nothing.
 use Rattle.laws.proofs.Prelude.{_-_, _≤_, _≡_, length, front, storing}
-use Rattle.tagged_fields.specs.Parts.{numberFrom}
+use Rattle.tagged_fields.specs.Numbers.{numberFrom}
 use Rattle.tagged_fields.proofs.numbers_into.Statement.{statement}
 use Rattle.tagged_fields.proofs.numbers_into.Tie as tie
 

@@ -1,6 +1,6 @@
 -- `signed_at` reads the number and then its sign. Assumes nothing.
 use Rattle.laws.proofs.Prelude.{ap, _∙_, needs}
-use Rattle.tagged_fields.specs.Parts.{signedOf, signedAt}
+use Rattle.tagged_fields.specs.Numbers.{signedOf, signedAt}
 use Rattle.tagged_fields.proofs.Bytes.{signed-read}
 use Rattle.tagged_fields.proofs.signed_at.Statement.{statement}
 use Rattle.tagged_fields.proofs.signed_at.Tie as tie

@@ -1,6 +1,6 @@
 -- `signed_into` stores each signed number at its index. Assumes nothing.
 use Rattle.laws.proofs.Prelude.{_-_, _≤_, _≡_, refl, _∙_, length, length-set, front, store-more, storing}
-use Rattle.tagged_fields.specs.Parts.{signedFrom}
+use Rattle.tagged_fields.specs.Numbers.{signedFrom}
 use Rattle.tagged_fields.proofs.Bytes.{signed-read}
 use Rattle.tagged_fields.proofs.signed_into.Statement.{statement}
 use Rattle.tagged_fields.proofs.signed_into.Tie as tie

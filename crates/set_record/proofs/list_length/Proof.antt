@@ -1,8 +1,8 @@
--- `list_length` cuts the count to 300. Assumes nothing.
+-- `list_length` takes at most 8,192. Assumes nothing.
 use borrow.Author.Needs.{needs}
-use Rattle.bench_rounds.proofs.Setting.{list-length-is}
-use Rattle.bench_rounds.proofs.list_length.Statement.{statement}
-use Rattle.bench_rounds.proofs.list_length.Tie as tie
+use Rattle.set_record.proofs.Setting.{list-length-is}
+use Rattle.set_record.proofs.list_length.Statement.{statement}
+use Rattle.set_record.proofs.list_length.Tie as tie
 
 returns : tie.Need-returns
 returns c = list-length-is _ _ _ _ (c .before .number .ensures) (c .smaller .ensures)

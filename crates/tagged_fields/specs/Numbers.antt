@@ -1,4 +1,4 @@
--- Need not be believed: no claim cites it. Bodies that are runs of numbers of 8 bytes, as docs/conformance.md has them.
+-- Must be believed. Bodies that are runs of numbers of 8 bytes, as docs/trace.md and docs/conformance.md have them.
 use Prim.Native.Nat.{ℕ, _+_, _-_, _*_}
 use mathlib.Core.Bool.{cond}
 use mathlib.Core.List.{List}
