@@ -35,8 +35,8 @@ GOOD = (
     ("check 0 0x00*65519", check(0, bytes(65_519))),
     ("record 255 -\nrecord 0 0x01 0x02*3", field(255, b"") + field(0, b"\1\2\2\2")),
     ("record 4 0x02*24\nend 0x0108", field(4, b"\2" * 24) + b"\1\x08"),
-    ("end -", b""),
     ("end 0x06ffff 0x00*65534\n# nothing else\n", b"\6\xff\xff" + bytes(65_534)),
+    ("end 0x0000", bytes(2)), ("end 0x000100", b"\0\1\0"), ("end 0xff0002 0x00*511", b"\xff\0\2" + bytes(511)),
 )
 
 # A trace and its lines
@@ -88,9 +88,13 @@ BAD = (
     ('check 0 "ab"0x00', 1, "no space between"), ('check 0 0x00"ab"', 1, "no space between"), ('check 0 "ab""cd"', 1, "no space between"),
     ("record", 1, "the tag is missing"), ("record 256 -", 1, "outside 0 to 255"), ("record -1 -", 1, "outside 0 to 255"),
     ("record 1", 1, "BYTES (or `-` for none) is missing"), ("record 1 0x00*65535 0x00", 1, "65536 bytes"),
-    ("end", 1, "BYTES (or `-` for none) is missing"), ("end 0x01\nopen 3", 2, "after `end` on line 1"),
-    ("open 3\nend 0x01\n\n# x\nend 0x01", 5, "after `end` on line 2"), ("end 0x01*65537 0x01", 1, "65538 bytes"),
-    ("end 0x01*65538", 1, "outside 0 to 65537"), ("end 0x01\n?", 2, "after `end` on line 1"),
+    ("end", 1, "`end` has no bytes"), ("end -", 1, "`end` has no bytes"), ("open 3\nend 0x00*0", 2, "`end` has no bytes"),
+    ("end 0x01\nopen 3", 2, "after `end` on line 1"), ("open 3\nend 0x01\n\n# x\nend 0x01", 5, "after `end` on line 2"),
+    ("end 0x01*65538", 1, "outside 0 to 65537"), ("end 0x01\n?", 2, "after `end` on line 1"), ("end lot", 1, "`lot` is not bytes"),
+    ("end 0x00*3", 1, "a whole record of 3 bytes"), ("open 3\n\nend 0x010800 0x03 0x00*7", 3, "a whole record of 11 bytes"),
+    ("end 0x010800 0x03 0x00*7 0x01", 1, "a whole record of 11 bytes"), ('end 0xff0400 "LOT7"', 1, "a whole record of 7 bytes"),
+    ("end 0x01*65537", 1, "a whole record of 260 bytes"), ("end 0x06ffff 0x00*65535", 1, "a whole record of 65538 bytes"),
+    ("end 0x06ffff 0x00*65535 0x01", 1, "a whole record of 65538 bytes"),
     ("set", 1, "the displacement is missing"), ("set 0", 1, "`etype` is missing"), ("set 0 etype", 1, "the list of widths is missing"),
     ("set 0 4 at 0", 1, "`4` stands where `etype` is due"), ("set 0 etype 4", 1, "`at` is missing"),
     ("set 0 etype 4 at", 1, "the list of displacements is missing"), ("set 0 etype 4 at 0", 1, "`extent` is missing"),
@@ -114,6 +118,16 @@ def round_trip_fault(trace):
     if PROGRAM.show(PROGRAM.assemble(text)) != text:
         return "show does not print the same text again"
     return None
+
+
+def end_fault(trace):
+    """What is wrong with bin/trace's `end` of these bytes, or None: it is good if `show` prints them as one `end`, else refused."""
+    shown = PROGRAM.show(trace)
+    try:
+        data = PROGRAM.assemble(f"end 0x{trace.hex()}")
+    except PROGRAM.Fault:
+        data = None
+    return None if data == (trace if shown.startswith("end ") else None) else "as an `end`, good and refused are mixed up"
 
 
 def random_traces(number):
@@ -142,7 +156,7 @@ def function_faults():
         if PROGRAM.assemble(text) != data:
             yield f"assemble: {text!r} makes other bytes"
     for trace in random_traces(3_000):
-        fault = round_trip_fault(trace)
+        fault = round_trip_fault(trace) or end_fault(trace)
         if fault:
             yield f"{trace.hex()}: {fault}"
     for name in SHIFTS:
@@ -209,6 +223,26 @@ def command_faults(folder):
         yield "--help"
 
 
+# A command with a standard stream that cannot be used, and the stream that its one line on standard error names
+CLOSED = (
+    ("show a.trace >&-", "standard output"), ("assemble a.txt - >&-", "standard output"), ("--help >&-", "standard output"),
+    ("show - <&-", "standard input"), ("assemble - b <&-", "standard input"), ("assemble - - <&- >&-", "standard input"),
+    ("show a.trace >/dev/full", "standard output"), ("show long >/dev/full", "standard output"), ("--help >/dev/full", "standard output"),
+)
+
+
+def closed_stream_faults(folder):
+    """One line and status 1. A stream that is not needed may be closed; with no standard error the status is still 1."""
+    for words, stream in CLOSED + (("show nothing 2>&-", None), ("show - <&- 2>&-", None)):
+        done = subprocess.run(f"'{TRACE}' {words}", shell=True, cwd=folder, capture_output=True, timeout=60)
+        said = is_one_line(done.stderr) and done.stderr.startswith(f"bin/trace: {stream}".encode()) if stream else not done.stderr
+        if done.returncode != 1 or done.stdout or not said or (folder / "b").exists():
+            yield f"{words}: status {done.returncode}, {done.stdout!r}, {done.stderr!r}"
+    done = subprocess.run(f"'{TRACE}' assemble a.txt b <&- >&-", shell=True, cwd=folder, capture_output=True, timeout=60)
+    if done.returncode != 0 or done.stderr or (folder / "b").read_bytes() != (folder / "a.trace").read_bytes():
+        yield f"assemble with two files and closed streams: status {done.returncode}, {done.stderr!r}"
+
+
 def closed_pipe_faults(folder):
     (folder / "long").write_bytes(open_file(3) * 5_957 + check(0, b"abcd" * 8_000))
     done = subprocess.run(f"'{TRACE}' show long | head -n 1", shell=True, cwd=folder, capture_output=True, timeout=60)
@@ -226,3 +260,4 @@ def faults():
                 yield f"{text[:60]!r}: {fault}"
         yield from command_faults(folder)
         yield from closed_pipe_faults(folder)
+        yield from closed_stream_faults(folder)

@@ -1,5 +1,5 @@
 // Reads and writes in rounds, for a host program that measures them: a handle is opened, a view set, and the same access made again and again at one explicit offset.
-// The view comes as the body of a record of tag 36 (docs/conformance.md), and the answer is the refusal number of the set or of the access that ended the rounds, 0 if all were granted.
+// The view comes as the body of a record of a set (docs/conformance.md, tag 36; the first number is not looked at), and the answer is the refusal number of the set or of the access that ended the rounds, 0 if all were granted.
 ghost use mathlib.Core.Path.{_≡_};
 ghost use Rattle.bench_rounds.specs.Parts.{bodySet, afterSet, readRounds, writeRounds, Left};
 use file::FileRecord;

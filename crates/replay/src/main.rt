@@ -14,7 +14,7 @@ use replay_run::Ending;
 // The program's own name and the trace's.
 const ARGUMENTS: usize = 2;
 
-// How many bytes of the trace are held at a time: the longest record, of 65,538 bytes, fits behind a rest that has no whole record.
+// How many bytes of the trace are held at a time: more than the longest record, of 65,538 bytes, so that a full window has a whole one.
 const WINDOW_BYTES: usize = 131072;
 
 // At most this many turns are made. Each goes on in the trace by at most a window, so that every place in it is below 2^64.

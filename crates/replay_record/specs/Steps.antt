@@ -49,8 +49,8 @@ answered answer count h f = record { good = true; answer = answer; count = count
 -- "One handle .. is replaced at each open"; "A check answers 0 if its bytes stand there in the file, else 25"
 unfoldable pub called : Replay → List ℕ → Recorded → Answer
 called s bytes (Opens mode) =
-    let a = openAnswer mode in
-    answered (a .refusal) (a .count) (a .handle) (s .file)
+    let opened = openAnswer mode in
+    answered (opened .refusal) (opened .count) (opened .handle) (s .file)
 called s bytes (Sets v representation) =
     let a = setViewAnswer (s .handle) representation v in
     answered (a .refusal) (a .count) (a .handle) (s .file)

@@ -13,6 +13,7 @@ use claim_calls::Begin;
 use claim_calls::DataAccess;
 use file::FileRecord;
 use file::Handle;
+use view::BytePos;
 use view::Offset;
 
 // What a replay holds beside the file's bytes: the handle, the file record, and how many records it has replayed.
@@ -131,24 +132,24 @@ fn counted(body: &[u8], numbers: usize, i: usize) -> bool
 }
 
 // Whether `n` bytes from a place on lie within a file of this length.
-fn lies_within(len: usize, place: u64, n: usize) -> bool
-    ensures { λ r. ⌜ r ≡ leb (place + n) len ⌝ }
+fn lies_within(len: usize, place: BytePos, n: usize) -> bool
+    ensures { λ r. ⌜ r ≡ leb (place .0 + n) len ⌝ }
 {
     if len < n {
         return false;
     }
     let highest = (len - n) as u64;
-    place <= highest
+    place.0 <= highest
 }
 
 // Whether the bytes stand in the file from a place on.
-fn stands(bytes: &[u8], place: u64, range: &[u8]) -> bool
-    ensures { λ r. ⌜ r ≡ standsAt (now (bytes .entry)) place (now (range .entry)) ⌝ }
+fn stands(bytes: &[u8], place: BytePos, range: &[u8]) -> bool
+    ensures { λ r. ⌜ r ≡ standsAt (now (bytes .entry)) (place .0) (now (range .entry)) ⌝ }
 {
     if !lies_within(bytes.len(), place, range.len()) {
         return false;
     }
-    let from = place as usize;
+    let from = place.0 as usize;
     let mut i = 0;
     while i < range.len() {
         if bytes[from + i] != range[i] {
@@ -160,8 +161,8 @@ fn stands(bytes: &[u8], place: u64, range: &[u8]) -> bool
 }
 
 // The answer of a check.
-fn check_answer(bytes: &[u8], place: u64, range: &[u8]) -> u64
-    ensures { λ r. ⌜ r ≡ cond (standsAt (now (bytes .entry)) place (now (range .entry))) 0 25 ⌝ }
+fn check_answer(bytes: &[u8], place: BytePos, range: &[u8]) -> u64
+    ensures { λ r. ⌜ r ≡ cond (standsAt (now (bytes .entry)) (place .0) (now (range .entry))) 0 25 ⌝ }
 {
     if stands(bytes, place, range) {
         return 0;
@@ -287,7 +288,7 @@ impl Replay {
         if !counted(body, CHECK_BYTES, 1) {
             return self.bad();
         }
-        let place = tagged_fields::number(body, 0);
+        let place = BytePos(tagged_fields::number(body, 0));
         let answer = check_answer(bytes, place, &body[CHECK_BYTES..]);
         answered(answer, 0, self.handle, self.file)
     }

@@ -1,3 +1,4 @@
 pub mod Turning
+pub mod Once
 pub mod Replaying
 pub mod OneOpen

@@ -1,7 +1,8 @@
--- A whole trace: every trace has a replay and only one, and a replay in pieces is that one, whatever the windows and the lists.
-use Rattle.laws.proofs.Prelude.{ℕ, zero, suc, _+_, _-_, _*_, _/_, _%_, _≤_, _<_, _≡_, refl, sym, ap, _∙_, subst, Bool, true, false, cond, List, _++_, ⊎-elim, arith, add-zero, add-suc, length, take, drop, tabulate-is, tabulate-add, eqb, eq-eqb, ne-eqb, eq-or-ne, cond-yes, cond-no, not-both, nth, tabulate, front, front-part, lt-or-le, leastFalse, least-false-le, least-false-keeps, least-false-breaks}
+-- A replay in pieces is the trace's replay, whatever the windows and the lists; why a piece says later. Rests on Once.antt.
+use Rattle.laws.proofs.Prelude.{_⊎_, inl, inr, ℕ, zero, suc, _+_, _-_, _*_, _/_, _%_, _≤_, _<_, _≡_, refl, sym, ap, _∙_, subst, Bool, true, false, cond, List, _++_, ⊎-elim, arith, add-zero, add-suc, length, length-drop, take, drop, tabulate-is, tabulate-add, eqb, eq-eqb, ne-eqb, eq-or-ne, cond-yes, cond-no, not-both, nth, tabulate, front, front-part, lt-or-le, leastFalse, least-false-le, least-false-keeps, least-false-breaks}
 use mathlib.Core.List.{_∷_, [], append-assoc, append-nil}
 use native.Mathlib.Nat.{add-assoc}
+use lib.ListN.{length-take}
 use Rattle.tagged_fields.specs.declared.Field.{Field}
 use Rattle.tagged_fields.specs.declared.Field.the-variants.{Whole, Cut, End}
 use Rattle.tagged_fields.specs.Fields.{fieldAt}
@@ -10,80 +11,15 @@ use Rattle.replay_record.specs.declared.Line.{Line}
 use Rattle.replay_record.specs.declared.Replay.{Replay}
 use Rattle.replay_record.specs.declared.Step.{Step}
 use Rattle.replay_record.specs.Records.{Recorded, recordIn}
-use Rattle.replay_record.specs.Steps.{atFirst, bytesAtFirst, called, bytesAfter, stepped}
+use Rattle.replay_record.specs.Steps.{called, bytesAfter, nextOf, stepped}
+use Rattle.replay_run.proofs.Once.{moved, replays-only, replays-is}
 use Rattle.replay_run.specs.declared.Ending.{Ending}
 use Rattle.replay_run.specs.declared.Ending.the-variants.{Later, Complete, Stopped}
 use Rattle.replay_run.specs.declared.RunAnswer.{RunAnswer}
 use Rattle.replay_run.specs.declared.Turn.{Turn}
 use Rattle.replay_run.specs.Traces.{numbersOf, Stop, Nowhere, At, Next, Over, Goes, recordNext, fieldNext, nextAt, Replays, over, goes}
 use Rattle.replay_run.specs.Parts.{noTurn, stepTurn, fieldTurn, fieldBytes, turnOf, turnBytes, Position, position, turnFrom, afterTurn, reached, turnGoes, turnsMade, lineAt, numberIn, endingAfter, runOf, RunMade}
-use Rattle.replay_run.specs.Pieces.{Piece, InPieces, later, complete, stopped, SaysWhatCallsGive}
-
--- ---- one replay only
-
-never : {A : Type 0} {e : Stop} {l : Line} {s : Replay} {bytes : List ℕ} {at : ℕ} → Over e ≡ Goes l s bytes at → A
-never p = absurd (let z : _≡_ {A = ℕ} 0 1 = cc in omega arith)
-
-moved : {trace : List ℕ} {s s' : Replay} {b b' : List ℕ} {at at' : ℕ} {ns : List ℕ} {e : Stop} → s ≡ s' → b ≡ b' → at ≡ at' → Replays trace s' b' at' ns e → Replays trace s b at ns e
-moved es eb ea d = rw (es, eb, ea) d
-
-pub replays-only : {trace : List ℕ} {s : Replay} {bytes : List ℕ} {at : ℕ} {ns ns' : List ℕ} {e e' : Stop} → Replays trace s bytes at ns e → Replays trace s bytes at ns' e' → (ns ≡ ns') × (e ≡ e')
-replays-only (over {e = e} p) (over {e = e'} q) = (refl, over-same (sym p ∙ q))
-  where
-    over-same : Over e ≡ Over e' → e ≡ e'
-    over-same h = cc
-replays-only (over p) (goes q d) = never (sym p ∙ q)
-replays-only (goes p d) (over q) = never (sym q ∙ p)
-replays-only (goes {s' = s1} {bytes' = b1} {at' = a1} {l = l1} {numbers = n1} p d) (goes {s' = s2} {bytes' = b2} {at' = a2} {l = l2} {numbers = n2} q d') =
-    let h : Goes l1 s1 b1 a1 ≡ Goes l2 s2 b2 a2 = sym p ∙ q in
-    let el : l1 ≡ l2 = cc in
-    let es : s1 ≡ s2 = cc in
-    let eb : b1 ≡ b2 = cc in
-    let ea : a1 ≡ a2 = cc in
-    let rest = replays-only d (moved es eb ea d') in
-    ((λ i. numbersOf (el i) ++ rest .0 i), rest .1)
-
--- ---- and every trace has one
-
--- a good record ends within the trace, past its header
-module _ (trace : List ℕ) (s : Replay) (bytes : List ℕ) (at : ℕ) where
-  record-past : (end : ℕ) (r : Recorded) {l : Line} {s' : Replay} {b : List ℕ} {n : ℕ} → recordNext s bytes at end r ≡ Goes l s' b n → end ≡ n
-  unfolding recordNext
-  record-past end r {l} {s'} {b} {n} e = told (stepped s (called s bytes r)) (stepped s (called s bytes r) .good) refl e
-    where
-      told : (t : Step) (good : Bool) → t .good ≡ good → cond (t .good) (Goes (t .line) (t .next) (bytesAfter s bytes r) end) (Over (At at)) ≡ Goes l s' b n → end ≡ n
-      told t true h q = let p : Goes (t .line) (t .next) (bytesAfter s bytes r) end ≡ Goes l s' b n = simp h at q in cc
-      told t false h q = never (simp h at q)
-
-  field-past : (f : Field) → FieldIs trace at f → {l : Line} {s' : Replay} {b : List ℕ} {n : ℕ} → fieldNext trace s bytes at f ≡ Goes l s' b n → (at + 3 ≤ n) × (n ≤ length trace)
-  unfolding fieldNext
-  field-past End i e = never e
-  field-past Cut i e = never e
-  field-past (Whole tag start len) i e =
-      let n = record-past (start + len) _ e in
-      (omega (arith, n, whole-past trace at tag start len i), omega (arith, n, whole-within trace at tag start len i))
-
-  pub next-past : {l : Line} {s' : Replay} {b : List ℕ} {n : ℕ} → nextAt trace s bytes at ≡ Goes l s' b n → (at + 3 ≤ n) × (n ≤ length trace)
-  unfolding nextAt
-  next-past e = field-past (fieldAt trace at) (field-is trace at) e
-
-pub replays-within : (trace : List ℕ) (fuel : ℕ) (s : Replay) (bytes : List ℕ) (at : ℕ) → length trace ≤ at + fuel → (ns : List ℕ) × ((e : Stop) × Replays trace s bytes at ns e)
-replays-within trace zero s bytes at h = found (nextAt trace s bytes at) refl
-  where
-    found : (x : Next) → nextAt trace s bytes at ≡ x → (ns : List ℕ) × ((e : Stop) × Replays trace s bytes at ns e)
-    found (Over e) p = ([], (e, over p))
-    found (Goes l s' b n) p = absurd (let q = next-past trace s bytes at p in omega arith)
-replays-within trace (suc fuel) s bytes at h = found (nextAt trace s bytes at) refl (replays-within trace fuel)
-  where
-    found : (x : Next) → nextAt trace s bytes at ≡ x → ((s' : Replay) (b : List ℕ) (n : ℕ) → length trace ≤ n + fuel → (ns : List ℕ) × ((e : Stop) × Replays trace s' b n ns e)) → (ns : List ℕ) × ((e : Stop) × Replays trace s bytes at ns e)
-    found (Over e) p more = ([], (e, over p))
-    found (Goes l s' b n) p more =
-        let q = next-past trace s bytes at p in
-        let rest = more s' b n (omega arith) in
-        (numbersOf l ++ rest .0, (rest .1 .0, goes p (rest .1 .1)))
-
-pub replays-is : (trace : List ℕ) (s : Replay) (bytes : List ℕ) (at : ℕ) → (ns : List ℕ) × ((e : Stop) × Replays trace s bytes at ns e)
-replays-is trace s bytes at = replays-within trace (length trace) s bytes at (omega arith)
+use Rattle.replay_run.specs.Pieces.{NoRecordAt, Piece, InPieces, later, complete, stopped, SaysWhatCallsGive}
 
 -- ---- a turn in a window is what comes next in the trace
 
@@ -205,7 +141,7 @@ module _ (trace : List ℕ) (from k : ℕ) (last : Bool) (ends : last ≡ true �
 
 module _ {trace : List ℕ} {s : Replay} {bytes after list : List ℕ} {at : ℕ} {r : RunAnswer} (c : Piece trace s bytes at after list r) where
   window-of : List ℕ
-  window-of = take (c .size) (drop at trace)
+  window-of = take (c .most) (drop at trace)
 
   begin : Position
   begin = position s bytes 0
@@ -246,11 +182,11 @@ module _ {trace : List ℕ} {s : Replay} {bytes after list : List ℕ} {at : ℕ
   wrote = ap (take (5 * r .lines)) (c .made .list) ∙ front-part (numberIn (c .last) window-of begin) (5 * r .lines) 0 (c .lent) (omega (arith, few))
 
   -- what is replayed from where it went to is replayed from where it began, after what it wrote
-  piece-before : {ns : List ℕ} {e : Stop} → Replays trace (r .state) after (at + r .at) ns e → Replays trace s bytes at (take (5 * r .lines) list ++ ns) e
+  pub piece-before : {ns : List ℕ} {e : Stop} → Replays trace (r .state) after (at + r .at) ns e → Replays trace s bytes at (take (5 * r .lines) list ++ ns) e
   unfolding there window-of begin
   piece-before {ns} {e} d =
       let moved-there = moved (sym state-is) (sym bytes-are) (ap (λ (n : ℕ). at + n) (sym place-is)) d in
-      let whole = turns-before trace at (c .size) (c .last) (c .ends) begin (r .lines) all-go moved-there in
+      let whole = turns-before trace at (c .most) (c .last) (c .ends) begin (r .lines) all-go moved-there in
       rw wrote (moved refl refl (sym (add-zero at)) whole)
 
   -- where it does not go on, the turn after its lines says so
@@ -258,23 +194,30 @@ module _ {trace : List ℕ} {s : Replay} {bytes after list : List ℕ} {at : ℕ
   unfolding runOf window-of begin room
   ending-is = ap (λ (x : RunAnswer). x .ending) (c .made .run) ∙ ap (endingAfter (c .last) window-of begin room) (sym made-lines)
 
-  turn-ends : (e : Ending) → r .ending ≡ e → (ending-number e ≡ 0 → ⊥) → (turnFrom (c .last) window-of there .replayed ≡ false) × (turnFrom (c .last) window-of there .ending ≡ e)
-  unfolding endingAfter turnsMade turnGoes there ending-number
-  turn-ends e h n = ⊎-elim
-      (λ q. absurd (n (ap ending-number (sym h ∙ (ending-is ∙ sym (cond-yes (eqb (r .lines) room) _ _ Later (eq-eqb (r .lines) room q) refl))))))
+  turn-said : (e : Ending) → r .ending ≡ e → (r .lines ≡ room) ⊎ ((turnFrom (c .last) window-of there .replayed ≡ false) × (turnFrom (c .last) window-of there .ending ≡ e))
+  unfolding endingAfter turnsMade turnGoes there
+  turn-said e h = ⊎-elim
+      (λ q. inl q)
       (λ q. let stop : turnGoes (c .last) window-of begin (r .lines) ≡ false = ap (turnGoes (c .last) window-of begin) made-lines ∙ least-false-breaks (turnGoes (c .last) window-of begin) room (below q) in
-      (stop, cond-no (eqb (r .lines) room) Later _ _ (ne-eqb (r .lines) room q) refl ∙ (sym ending-is ∙ h)))
+      inr (stop, cond-no (eqb (r .lines) room) Later _ _ (ne-eqb (r .lines) room q) refl ∙ (sym ending-is ∙ h)))
       (eq-or-ne (r .lines) room)
     where
       below : (r .lines ≡ room → ⊥) → leastFalse (turnGoes (c .last) window-of begin) room < room
       below q = ⊎-elim (λ l. l) (λ l. absurd (q (omega (arith, made-lines, few)))) (lt-or-le _ room)
+
+  turn-ends : (e : Ending) → r .ending ≡ e → (ending-number e ≡ 0 → ⊥) → (turnFrom (c .last) window-of there .replayed ≡ false) × (turnFrom (c .last) window-of there .ending ≡ e)
+  unfolding endingAfter ending-number
+  turn-ends e h n = ⊎-elim
+      (λ q. absurd (n (ap ending-number (sym h ∙ (ending-is ∙ sym (cond-yes (eqb (r .lines) room) _ _ Later (eq-eqb (r .lines) room q) refl))))))
+      (λ t. t)
+      (turn-said e h)
 
   pub piece-complete : r .ending ≡ Complete → Replays trace s bytes at (take (5 * r .lines) list) Nowhere
   unfolding turnFrom window-of there ending-number
   piece-complete h =
       let t = turn-ends Complete h (λ z. omega (arith, z)) in
       let q = there in
-      let here = turn-over trace at (c .size) (c .last) (c .ends) (q .state) (q .bytes) (q .at) Complete (t .0) (t .1) .0 refl in
+      let here = turn-over trace at (c .most) (c .last) (c .ends) (q .state) (q .bytes) (q .at) Complete (t .0) (t .1) .0 refl in
       subst (λ (l : List ℕ). Replays trace s bytes at l Nowhere) (append-nil _) (piece-before (moved state-is bytes-are (ap (λ (n : ℕ). at + n) place-is) (over here)))
 
   pub piece-stopped : r .ending ≡ Stopped → Replays trace s bytes at (take (5 * r .lines) list) (At (at + r .at))
@@ -282,8 +225,105 @@ module _ {trace : List ℕ} {s : Replay} {bytes after list : List ℕ} {at : ℕ
   piece-stopped h =
       let t = turn-ends Stopped h (λ z. omega (arith, z)) in
       let q = there in
-      let here = turn-over trace at (c .size) (c .last) (c .ends) (q .state) (q .bytes) (q .at) Stopped (t .0) (t .1) .1 refl in
+      let here = turn-over trace at (c .most) (c .last) (c .ends) (q .state) (q .bytes) (q .at) Stopped (t .0) (t .1) .1 refl in
       subst (λ (l : List ℕ). Replays trace s bytes at l (At (at + r .at))) (append-nil _) (piece-before (moved state-is bytes-are (ap (λ (n : ℕ). at + n) place-is) (over (here ∙ ap (λ (n : ℕ). Over (At (at + n))) (sym place-is)))))
+
+-- ---- why a run says later: a run over the rest of the trace, with room for all its lines, does not
+
+not-last : (last : Bool) (a : Ending) → cond last a Later ≡ Later → (ending-number a ≡ 0 → ⊥) → last ≡ false
+unfolding ending-number
+not-last true a e n = absurd (n (ap ending-number e))
+not-last false a e n = refl
+
+-- a good step counts one record
+step-number : (s : Replay) (bytes : List ℕ) (r : Recorded) → stepped s (called s bytes r) .good ≡ true → stepped s (called s bytes r) .next .number ≡ s .number + 1
+unfolding stepped nextOf
+step-number s bytes r h = told (called s bytes r .good) refl
+  where
+    told : (b : Bool) → called s bytes r .good ≡ b → stepped s (called s bytes r) .next .number ≡ s .number + 1
+    told true e = rw e refl
+    told false e = not-both h (rw e refl)
+
+module _ (last : Bool) (window : List ℕ) (s : Replay) (bytes : List ℕ) (at : ℕ) where
+  -- a turn that replays a record goes past its header, and counts it
+  field-counts : (f : Field) → FieldIs window at f → fieldTurn last window s bytes at f .replayed ≡ true → (at + 3 ≤ fieldTurn last window s bytes at f .at) × (fieldTurn last window s bytes at f .next .number ≡ s .number + 1)
+  unfolding fieldTurn noTurn stepTurn
+  field-counts End i h = not-both h refl
+  field-counts Cut i h = not-both h refl
+  field-counts (Whole tag start len) i h = told (stepped s (called s bytes r) .good) refl
+    where
+      r : Recorded
+      r = recordIn tag (take len (drop start window))
+
+      told : (b : Bool) → stepped s (called s bytes r) .good ≡ b → (at + 3 ≤ stepTurn s at (start + len) (stepped s (called s bytes r)) .at) × (stepTurn s at (start + len) (stepped s (called s bytes r)) .next .number ≡ s .number + 1)
+      told true e = rw e (whole-past window at tag start len i, step-number s bytes r e)
+      told false e = not-both h (rw e refl)
+
+  turn-counts : turnOf last window s bytes at .replayed ≡ true → (at + 3 ≤ turnOf last window s bytes at .at) × (turnOf last window s bytes at .next .number ≡ s .number + 1)
+  unfolding turnOf noTurn
+  turn-counts h = ⊎-elim
+      (λ e. not-both h (rw (eq-eqb (s .number) 18446744073709551615 e) refl))
+      (λ n. let no = ne-eqb (s .number) 18446744073709551615 n in rw no (field-counts (fieldAt window at) (field-is window at) (simp no at h)))
+      (eq-or-ne (s .number) 18446744073709551615)
+
+  -- one that replays none and does not end the replay: the window has no whole record there and does not end the trace, or the numbers are used up
+  field-later : (f : Field) → fieldAt window at ≡ f → fieldTurn last window s bytes at f .replayed ≡ false → fieldTurn last window s bytes at f .ending ≡ Later → (last ≡ false) × NoRecordAt window at
+  unfolding fieldTurn noTurn stepTurn ending-number
+  field-later End i h e = (not-last last Complete e (λ y. omega (arith, y)), λ tag start n q. no-whole (sym i ∙ q))
+    where
+      no-whole : {tag start n : ℕ} → End ≡ Whole tag start n → ⊥
+      no-whole w = let z : _≡_ {A = ℕ} 0 1 = cc in omega arith
+  field-later Cut i h e = (not-last last Stopped e (λ y. omega (arith, y)), λ tag start n q. no-whole (sym i ∙ q))
+    where
+      no-whole : {tag start n : ℕ} → Cut ≡ Whole tag start n → ⊥
+      no-whole w = let z : _≡_ {A = ℕ} 0 1 = cc in omega arith
+  field-later (Whole tag start len) i h e = told (stepped s (called s bytes r) .good) refl
+    where
+      r : Recorded
+      r = recordIn tag (take len (drop start window))
+
+      told : (b : Bool) → stepped s (called s bytes r) .good ≡ b → (last ≡ false) × NoRecordAt window at
+      told true g = not-both (rw g refl) h
+      told false g = apart (simp g at e) (λ y. omega (arith, y))
+
+  turn-later : turnOf last window s bytes at .replayed ≡ false → turnOf last window s bytes at .ending ≡ Later → (s .number ≡ 18446744073709551615) ⊎ ((last ≡ false) × NoRecordAt window at)
+  unfolding turnOf
+  turn-later h e = ⊎-elim
+      (λ n. inl n)
+      (λ n. let no = ne-eqb (s .number) 18446744073709551615 n in inr (field-later (fieldAt window at) refl (simp no at h) (simp no at e)))
+      (eq-or-ne (s .number) 18446744073709551615)
+
+module _ (last : Bool) (window : List ℕ) (p : Position) where
+  turns-count : (n : ℕ) → ((i : ℕ) → i < n → turnGoes last window p i ≡ true) → (p .at + 3 * n ≤ reached last window p n .at) × (reached last window p n .state .number ≡ p .state .number + n)
+  unfolding reached afterTurn turnFrom turnGoes
+  turns-count zero keeps = (omega arith, omega arith)
+  turns-count (suc n) keeps =
+      let q = reached last window p n in
+      let before = turns-count n (λ i l. keeps i (omega arith)) in
+      let one = turn-counts last window (q .state) (q .bytes) (q .at) (keeps n (omega arith)) in
+      (omega (arith, before, one), omega (arith, before, one))
+
+module _ {trace : List ℕ} {s : Replay} {bytes after list : List ℕ} {at : ℕ} {r : RunAnswer} (c : Piece trace s bytes at after list r) where
+  pub piece-later : r .ending ≡ Later → (r .lines ≡ length (c .lent) / 5) ⊎ ((r .state .number ≡ 18446744073709551615) ⊎ ((c .last ≡ false) × NoRecordAt (take (c .most) (drop at trace)) (r .at)))
+  unfolding turnFrom room window-of
+  piece-later h = ⊎-elim (λ q. inl q) (λ t. inr (⊎-elim
+      (λ n. inl (ap (λ (x : Replay). x .number) (state-is c) ∙ n))
+      (λ l. inr (l .0, subst (NoRecordAt (window-of c)) (sym (place-is c)) (l .1)))
+      (turn-later (c .last) (window-of c) (there c .state) (there c .bytes) (there c .at) (t .0) (t .1)))) (turn-said c Later h)
+
+  pub piece-last : c .last ≡ true → length trace < length (c .lent) / 5 → s .number + length trace < 18446744073709551615 → r .ending ≡ Later → ⊥
+  unfolding window-of begin there
+  piece-last l room-for-all numbers h =
+      let counts = turns-count (c .last) (window-of c) (begin c) (r .lines) (all-go c) in
+      let bound = c .made .within in
+      let short = length-take (c .most) (drop at trace) in
+      let rest = length-drop at trace in
+      let place = place-is c in
+      let state = ap (λ (x : Replay). x .number) (state-is c) in
+      ⊎-elim
+      (λ q. omega (arith, counts, bound, short, rest, place))
+      (λ t. ⊎-elim (λ n. omega (arith, counts, bound, short, rest, place, state)) (λ z. not-both l (z .0)) t)
+      (piece-later h)
 
 -- ---- whatever the cuts, what the pieces wrote and how the last one ended is the trace's replay
 
@@ -294,7 +334,10 @@ pieces-are (stopped c h) = piece-stopped c h
 
 pub says-what-calls-give : (trace : List ℕ) → SaysWhatCallsGive trace
 says-what-calls-give trace = record {
-  pieces = λ ns e d. pieces-are d;
-  one = replays-is trace atFirst bytesAtFirst 0;
-  only = λ ns other e f d d'. replays-only d d';
+  one = replays-is trace;
+  only = replays-only;
+  prefix = λ c d. piece-before c d;
+  why = piece-later;
+  long = piece-last;
+  pieces = pieces-are;
 }

@@ -70,7 +70,7 @@ fn ended(last: bool, then: Ending) -> Ending
     Ending::Later
 }
 
-// The record at a place of the window.
+// Replays the record at a place of the window, or says how the run ends there.
 fn make_turn(state: Replay, window: &[u8], at: usize, last: bool, bytes: &mut [u8]) -> Turn
     ensures { λ r. ⌜ TurnMade last (now (window .entry)) state (now (bytes .entry)) (now (bytes .exit)) at r ⌝ }
 {

@@ -1,4 +1,4 @@
--- Must be believed. The record of a set, in a trace (docs/trace.md, tag 2) as in a script (docs/conformance.md, tag 36): numbers 1, 2 and 3 of the body are the displacement and the extents of etype and filetype,
+-- Must be believed. The record of a set, in a trace (docs/trace.md, tag 2), and laid out alike in a script (docs/conformance.md, tag 36; the driver cuts counts to 300): numbers 1, 2 and 3 of the body are the displacement and the extents of etype and filetype,
 -- numbers 4 to 7 count four lists, which follow: etype widths and displacements, filetype widths and displacements. The representation stands after them.
 use Prim.Native.Nat.{ℕ, zero, suc, _+_, _*_, min}
 use mathlib.Core.List.{List}

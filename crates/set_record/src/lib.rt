@@ -1,4 +1,4 @@
-// The record of a set, in a trace (docs/trace.md) and in a script of the conformance driver (docs/conformance.md): the view that its body describes, set through a handle.
+// The record of a set, in a trace (docs/trace.md) and for the benchmark: the view that its body describes, set through a handle.
 ghost use mathlib.Core.Path.{_≡_};
 ghost use Prim.Native.Nat.{_≤_};
 ghost use lib.ListN.{length, drop};

@@ -7,7 +7,7 @@ returns : tie.Need-returns
 returns c = search too-long
 
 returns-2 : tie.Need-returns-2
-returns-2 c = let a = c .before .args in lies-there (a .len) (a .place) (a .n) (c .if1 .left)
+returns-2 c = let a = c .before .before .args in lies-there (a .len) (a .place .0) (a .n) (c .before .if1 .left)
 
 pub lies-within-spec : {M : Type 1} → statement M
 lies-within-spec = tie.close (tie.spec returns returns-2)

@@ -6,10 +6,10 @@ use Rattle.replay_record.proofs.stands.Statement.{statement}
 use Rattle.replay_record.proofs.stands.Tie as tie
 
 abbrev Inv-loop : tie.InvT-loop
-Inv-loop bytes place range from i₀ i = Passed (byteStands bytes place range) i (length range)
+Inv-loop bytes range from i₀ i = Passed (byteStands bytes from range) i (length range)
 
 abbrev μ-loop : tie.MeasureT-loop
-μ-loop bytes place range from i₀ i = length range - i
+μ-loop bytes range from i₀ i = length range - i
 
 returns : tie.Need-returns Inv-loop μ-loop
 returns c = search past-file
