@@ -1,4 +1,4 @@
-"""Sets that name a type and an entry, by document 02's order 1: rows of the fixed script, each with the refusal, the type and the entry.
+"""Sets that name a type and an entry, by document 02's orders 1 and 3: rows of the fixed script, each with refusal, type and entry.
 
 What they state is written here by hand; the model has no part in it.
 """
@@ -171,12 +171,13 @@ def named_for_9():
 
 
 def named_for_10():
-    """Neighbours of two groups, of one group, and tiles; several overlaps."""
+    """Bytes that clash in one tile, of two groups and of one group, and with the next tile; several entries. The first entry is named that
+    has a byte clashing with itself or an earlier entry. `interlaced.py` has more of them."""
     for n, instances, groups in [(1, 2, (1,)), (1, 64, (1, 31, 63)), (2, 3, (1, 2)), (4, 64, (1, 32, 63)), (8, 3, (1, 2))]:
         shape = in_a_row(n, instances)
         yield from ((moved(shape, group, -1), 10, FILETYPE, group * n) for group in groups)
         yield moved(shape, instances, -1), 10, FILETYPE, instances * n - 1
-        yield replace(shape, filetype_extent=1), 10, FILETYPE, instances * n - 1
+        yield replace(shape, filetype_extent=1), 10, FILETYPE, 1
     yield from ((words((p,), 3), 10, FILETYPE, 0) for p in (0, 4))
     for n in (2, 8):
         yield moved(in_a_row(n, 1), 1, -1), 10, FILETYPE, n - 1
@@ -185,12 +186,15 @@ def named_for_10():
         for instances in (1, 3):
             shape = replace(in_a_row(8, instances), displacements=near)
             yield shape, 10, FILETYPE, entry
-            yield replace(shape, filetype_extent=1), 10, FILETYPE, entry
+            yield replace(shape, filetype_extent=7), 10, FILETYPE, entry
+            yield replace(shape, filetype_extent=1), 10, FILETYPE, 1
     for n in (1, 2, 5):
         shape = in_a_row(n, 6)
         yield moved(moved(shape, 1, -1), 3, -1), 10, FILETYPE, n
         yield moved(moved(shape, 3, -1), 6, -1), 10, FILETYPE, 3 * n
-        yield replace(moved(shape, 4, -1), filetype_extent=1), 10, FILETYPE, 4 * n
+        yield replace(moved(shape, 4, -1), filetype_extent=4 * n), 10, FILETYPE, 4 * n
+        yield replace(moved(shape, 4, -1), filetype_extent=3 * n), 10, FILETYPE, 3 * n  # the next tile before the neighbours
+        yield replace(moved(shape, 4, -1), filetype_extent=1), 10, FILETYPE, 1
         yield moved(moved(moved(shape, 2, -1), 4, -1), 6, -1), 10, FILETYPE, 2 * n
     yield replace(in_a_row(5, 6), displacements=(3, 4, 5, 6, 7), filetype_extent=29), 10, FILETYPE, 29
 

@@ -1,19 +1,18 @@
 """The fixed script: document 01's figures, its six errors, both ends of each limit in every call that tests it, the orders of checks,
-and the types and entries that refused sets name by document 02's order 1.
+the types and entries that refused sets name by document 02's order 1, and the views whose tiles interlace by its order 3.
 
 Each row states a record with what the two documents say of its line; `faults` compares that with the model's lines.
 """
 
-from dataclasses import dataclass, replace
+from dataclasses import replace
 
 from entries import ETYPE, FILETYPE, MEGA, NAMED, changed, spread
-from model import Body, checksum, file_bytes, run
-from scripts import (ALL_ONES, LARGEST, LINE, SMALLEST, Request, Shape, decode, end, field, file_record, fill_up, forged, give_back,
-                     in_a_row, new_file, one_changed, open_handle, place, read_at, read_here, record, reverse, seek, set_view, words,
-                     write_at, write_here)
+from interlaced import INTERLACED, P12
+from model import Body, checksum, run
+from script_rows import BYTES, READ_ONLY, SET, WRITE_ONLY, Script, every_call, handle_sum, made
+from scripts import (ALL_ONES, LARGEST, LINE, SMALLEST, Request, Shape, decode, end, field, file_record, forged, give_back, in_a_row,
+                     new_file, one_changed, open_handle, place, read_at, read_here, record, reverse, seek, words, write_at, write_here)
 
-SET = 36  # the tag of a set
-BYTES = Shape((1,), (0,), 1, (0,), 1)  # the default view
 FIRST = words((4,), 12, 100)  # P1
 LOOSE = Shape((4, 1), (0, 4), 8, (0, 16), 24)  # P8
 PARTS = Shape((2, 1, 4), (1, 4, 6), 12, (0, 12), 36, 2)  # bytes 3, 4, 6, 8 to 11, and 12 further on
@@ -32,67 +31,6 @@ def bad_names():
     return beginnings + longer + changed + [b"NATIVE", b"evitan", b"\0" * 6, b"internal", b"external32"]
 
 
-def made(seed, count):
-    """The first bytes of a file, or of a write's buffer, of this seed."""
-    return file_bytes(count, seed)
-
-
-def handle_sum(mode, shape):
-    """The line's checksum of a handle of this mode and view, with 0 in the unused places."""
-    return checksum((mode, shape.displacement, len(shape.widths), *fill_up(shape.widths, 8, 0), *fill_up(shape.displacements, 8, 0),
-                     shape.etype_extent, len(shape.origins), *fill_up(shape.origins, 64, 0), shape.filetype_extent))
-
-
-@dataclass(frozen=True)
-class Row:
-    section: str
-    record: bytes
-    expected: dict  # numbers of the line by name
-
-
-class Script:
-    def __init__(self):
-        self.rows, self.section = [], ""
-
-    def add(self, record, refusal=0, **expected):
-        """A row of a set states the type and the entry that it names, 0 and 0 unless they are given."""
-        named = {"a": 0, "b": 0} if record[0] == SET else {}
-        self.rows.append(Row(self.section, record, {"refusal": refusal, **named, **expected}))
-
-    def open(self, slot, mode):
-        self.add(open_handle(slot, mode), pointer=0, view=handle_sum(mode or 3, BYTES))
-
-    def set(self, slot, request, refusal=0, kind=0, entry=0, **expected):
-        """A set that names this type and entry, if it is refused and names any."""
-        if isinstance(request, Shape):
-            request = request.request()
-        self.add(set_view(slot, request), refusal, a=kind, b=entry, **expected)
-
-    def places(self, slot, expected):
-        for offset, byte in enumerate(expected):
-            self.add(place(slot, offset), a=byte)
-
-    def ends(self, slot, file, expected):
-        for size, offset in expected:
-            self.add(file_record(file, size))
-            self.add(end(slot, file), a=offset)
-
-    def owner(self, slot, byte, pair=None):
-        """The lookup of a byte that has this pair of offset and index, or none."""
-        a, b, c = (1, *pair) if pair else (0, 0, 0)
-        self.add(reverse(slot, byte), count=0, a=a, b=b, c=c)
-
-    def owners(self, slot, last, etypes):
-        """Lookups of the bytes 0 to last. `etypes` has the file bytes of the offsets 0, 1 and so on; the other bytes have no pair."""
-        pairs = {byte: (offset, index) for offset, places in enumerate(etypes) for index, byte in enumerate(places)}
-        for byte in range(last + 1):
-            self.owner(slot, byte, pairs.get(byte))
-
-    def write(self, record, moved, size, content):
-        """A granted write to file 0, with the file's size and all its bytes after it."""
-        self.add(record, count=moved, size0=size, sum0=checksum(content))
-
-
 # Document 01's figures
 
 def p1_to_p3(s):
@@ -108,7 +46,7 @@ def p1_to_p3(s):
 
 
 def for_writing(mode, entry):
-    """What a set of an overlap states in this mode: refusal 10 with the filetype's entry, and nothing for reading."""
+    """What a set of bytes that clash states in this mode: refusal 10 with the filetype's entry, and nothing for reading."""
     return () if mode == 1 else (10, FILETYPE, entry)
 
 
@@ -209,10 +147,10 @@ def p11_and_p12(s):
     s.add(write_at(0, 0, 2**32 - 1, 2, 8), 12)
     s.write(write_at(0, 0, 2**32, 0, 8), 0, 40, made(0, 40))
     s.add(write_at(0, 0, 2**32, 1, 8), 12)
-    shape = Shape((1,), (0,), 1, (0, 3), 2)
     for mode in (1, 2, 3):
         s.open(0, mode)
-        s.set(0, shape, *for_writing(mode, 1))
+        s.set(0, P12)
+        s.places(0, [0, 3, 2, 5, 4, 7])
 
 
 # The six errors of document 01
@@ -498,25 +436,6 @@ def set_does_not_look_at_the_file(s):
 
 # Check 1 by forged handles
 
-READ_ONLY, WRITE_ONLY = (0, 0, 11, 11, 11), (11, 11, 0, 0, 0)
-
-
-def every_call(s, slot, file, refusal=0, access=(0,) * 5, count=1):
-    """Each call that tests the handle, the set last. `access` has the refusals of both reads, both writes and the reverse lookup."""
-    if refusal:
-        access = (refusal,) * 5
-    s.add(give_back(slot, (9, 8, 256, 257), 11), refusal)
-    s.add(place(slot, 1), refusal)
-    s.add(end(slot, file), refusal)
-    s.add(seek(slot, file, 0, 1), refusal)
-    s.add(read_at(slot, file, 0, count, 64), access[0])
-    s.add(read_here(slot, file, count, 64), access[1])
-    s.add(write_at(slot, file, 0, count, 64), access[2])
-    s.add(write_here(slot, file, count, 64), access[3])
-    s.add(reverse(slot, 1), access[4])
-    s.set(slot, words((4,), 12), refusal)
-
-
 NEXT_FAR = (0, 0, 0, 14, 0)  # the etype at offset 0 lies in the file, that at offset 1 does not
 ALL_FAR = (0, 0, 14, 14, 0)
 
@@ -601,9 +520,10 @@ def entries_past_the_limits():
 
 
 def views_that_break_a_rule():
-    yield damaged("filetype not ordered", mode=1, shape=Shape((4, 4), (0, 8), 4, (0, 4), 16))
-    yield damaged("origins not ordered", mode=1, shape=replace(BYTES, origins=(1, 0)))
-    yield damaged("etype not ordered", mode=1, shape=Shape((1, 1), (1, 0), 1, (0,), 2))
+    for mode in (1, 2, 3):  # no bytes clash
+        yield damaged(f"filetype not ordered, mode {mode}", mode=mode, shape=Shape((4, 4), (0, 8), 4, (0, 4), 16))
+        yield damaged(f"origins not ordered, mode {mode}", mode=mode, shape=replace(BYTES, origins=(1, 0), filetype_extent=2))
+        yield damaged(f"etype not ordered, mode {mode}", mode=mode, shape=Shape((1, 1), (1, 0), 1, (0,), 2))
     yield damaged("first hole", mode=1, shape=words((1,), 12))
     yield damaged("last hole", mode=1, shape=words((0,), 5))
     yield damaged("inner hole", mode=1, shape=words((0, 5), 9))
@@ -824,10 +744,10 @@ def read_sizes(s):
 
 def reaching_etypes():
     """Views from byte 5 on whose etype has an earlier entry that reaches past the last: the begins, the bytes from a begin on, and the
-    entry that a set for writing names: the later one of the first two that overlap."""
+    entry that a set for writing names: the first with a byte that clashes with itself or an earlier entry."""
     long_first = [0, 1, 2, 3, 4, 5, 6, 7, 2]
     yield "widths 8, 1 at 0, 2", Shape((8, 1), (0, 2), 8, (0, 8), 16, 5), (5, 13, 21, 29), long_first, 1
-    yield "widths 8, 1 at 0, 2, E = 3", Shape((8, 1), (0, 2), 3, (0, 3), 6, 5), (5, 8, 11, 14), long_first, 1
+    yield "widths 8, 1 at 0, 2, E = 3", Shape((8, 1), (0, 2), 3, (0, 3), 6, 5), (5, 8, 11, 14), long_first, 0
     yield "widths 1, 4, 2 at 1, 2, 2", Shape((1, 4, 2), (1, 2, 2), 6, (0, 6), 18, 5), (5, 11, 23, 29), [1, 2, 3, 4, 5, 2, 3], 2
 
 
@@ -835,7 +755,7 @@ def reads_past_the_last_entry(s):
     """Such an etype is in the file where all its bytes are; the sizes lie on both sides of that and of the last entry's end. It can be set
     for reading only."""
     content = made(30, 60)
-    for name, shape, begins, data, overlap in reaching_etypes():
+    for name, shape, begins, data, clashing in reaching_etypes():
         for forgery in (False, True):
             s.section = f"read: {name}, {'forged' if forgery else 'set'}"
             s.add(new_file(0, 60, 60, 30))
@@ -858,7 +778,7 @@ def reads_past_the_last_entry(s):
                 s.add(seek(0, 0, 0, 0), pointer=0)
         for mode in (2, 3):
             s.open(0, mode)
-            s.set(0, shape, 10, FILETYPE, overlap)
+            s.set(0, shape, 10, FILETYPE, clashing)
             s.add(forged(0, mode, 0, shape))
             every_call(s, 0, 0, 1)
 
@@ -1283,7 +1203,7 @@ SECTIONS = (p1_to_p3, p4_and_p5, p6_and_p7, p6_for_writing, p8, p9, p10, p11_and
             garbage, place_offsets, the_largest_views, offsets_at_the_limits, ends_of_file, seeks, reads_at_an_offset, read_sizes,
             reads_past_the_last_entry, reads_at_the_pointer, two_handles_on_one_file, writes_at_an_offset, write_growth, write_long_gap,
             write_gaps, write_lengths, write_orders, two_writes, writes_at_the_pointer, writes_by_mode, writes_by_one_handle,
-            lookups_of_every_byte, lookups_at_the_limits, giving_back, write_pairs, pairs, bodies)
+            lookups_of_every_byte, lookups_at_the_limits, giving_back, *INTERLACED, write_pairs, pairs, bodies)
 CUT = record(38, 1, 0)[:-1]  # the last record lacks a byte
 
 

@@ -5,6 +5,7 @@ The lines are stated without the model; `faults` compares them with the model's.
 
 from dataclasses import dataclass, replace
 
+from interlaced import P12, bytes_at
 from model import file_bytes
 from replayer import Replay, Rules
 from scripts import ALL_ONES, LARGEST, SMALLEST, Request, Shape, field, in_a_row, record, words
@@ -132,18 +133,16 @@ def p1_to_p3(s):
     s.add(check(120, bytes(8) + b"WORD"))
 
 
-def p4_to_p7_and_p12(s):
+def p4_to_p7(s):
     """The size is 132. P6 and P7 lie at 124, so that the file has 8 bytes of theirs."""
-    s.section = "P4 to P7, P12"
-    p12 = Shape((1,), (0,), 1, (0, 3), 2)
+    s.section = "P4 to P7"
     s.open(3)
     s.add(seek(9, 0), pointer=9)
     s.refused(9, set_view(words((2,), 12)))
-    s.refused(10, *map(set_view, (words((0, 2), 6), words((0, 4), 4), words((0, 8), 4), p12)))
+    s.refused(10, *map(set_view, (words((0, 2), 6), words((0, 4), 4), words((0, 8), 4))))
     s.add(read_here(1), count=1, pointer=10)  # the default view stands
     s.open(1)
     s.set(words((0, 2), 6))
-    s.set(p12)
     s.set(words((0, 4), 4, 124))
     s.add(seek(0, 2), pointer=3)
     s.add(read_at(0, 5), count=3)
@@ -151,6 +150,29 @@ def p4_to_p7_and_p12(s):
     s.add(seek(0, 2), pointer=3)
     s.add(read_at(0, 3), count=1)
     s.add(read_at(2, 2), count=1)
+
+
+def p12(s):
+    """The size is 132. P12 lies at 60: the bytes 60, 63, 62, 65 and so on."""
+    s.section = "P12"
+    s.open(3)
+    s.add(seek(9, 0), pointer=9)
+    s.refused(10, *map(set_view, (bytes_at((0, 2), 2), bytes_at((0, 4), 2))))
+    s.set(replace(P12, displacement=60))
+    s.add(write_at(0, 3, b"ABC"), count=3)
+    s.add(check(60, b"A\0CB\0"))
+    s.add(write_here(2, b"DE"), count=2, pointer=2)
+    s.add(check(60, b"D\0CE\0"))
+    s.add(read_here(3), count=3, pointer=5)
+    s.add(seek(0, 2), pointer=71)  # offset 70 begins at 130, 71 at 133
+    s.add(read_at(69, 3), count=2)
+    s.open(2)
+    s.set(replace(P12, displacement=60))
+    s.add(write_at(2, 2, b"FG"), count=2)
+    s.add(check(60, b"D\0FE\0G\0"))
+    s.open(1)
+    s.set(P12)
+    s.set(bytes_at((0, 2), 2))
 
 
 def p10_and_p11(s):
@@ -346,7 +368,7 @@ def long_bodies(s):
     s.add(read_here(2), count=1, pointer=FILE)
 
 
-SECTIONS = (before_any_open, p9, p8, p1_to_p3, p4_to_p7_and_p12, p10_and_p11, modes, refused_sets, handles, accesses, checks,
+SECTIONS = (before_any_open, p9, p8, p1_to_p3, p4_to_p7, p12, p10_and_p11, modes, refused_sets, handles, accesses, checks,
             the_last_byte, long_bodies)
 
 
@@ -456,6 +478,57 @@ def whole_traces():
     yield s
 
 
+def interlaced_traces():
+    """Views whose tiles interlace: the highest byte of a write is not always its last one."""
+    s = Trace("P12")
+    s.open(3)
+    s.set(P12)
+    s.add(write_here(3, b"ABC"), count=3, pointer=3, size=4)
+    s.add(check(0, b"A\0CB\0"))
+    s.add(read_at(0, 4), count=3)
+    s.add(write_here(1, b"D"), count=1, pointer=4, size=6)
+    s.add(check(0, b"A\0CB\0D\0"))
+    s.add(read_here(2), count=1, pointer=5)  # byte 4; byte 7 is past the size
+    s.add(seek(0, 2), pointer=5)  # offset 4 begins at 4, offset 5 at 7
+    s.add(write_at(1, 2, b"bc"), count=2)
+    s.add(check(0, b"A\0cb\0D\0"))
+    yield s
+    s = Trace("P12, read short before a byte that is in the file")
+    s.open(3)
+    s.add(write_at(0, 3, b"xyz"), count=3, size=3)
+    s.set(P12)
+    s.add(read_at(0, 3), count=1)
+    s.add(read_here(3), count=1, pointer=1)
+    s.add(read_here(2), count=0)
+    s.add(seek(-1, 2), pointer=2)
+    s.add(read_here(2), count=1, pointer=3)
+    yield s
+    for more, answer in [(0, 0), (1, 14)]:
+        s = Trace(f"P12 at the end of the file, {more} bytes further on")
+        s.open(3)
+        s.set(replace(P12, displacement=FILE - 4 + more))
+        s.add(write_at(0, 3, b"ABC"), answer, count=0 if answer else 3, size=0 if answer else FILE)
+        s.add(write_here(2, b"DE"), answer, count=0 if answer else 2, pointer=0 if answer else 2)
+        s.add(check(FILE - 4, bytes(4) if answer else b"D\0CE"))
+        yield s
+    s = Trace("words at 0 and 12, F = 8")
+    s.open(2)
+    s.set(words((0, 12), 8))
+    s.add(write_at(1, 2, b"ONE.TWO."), count=2, size=16)
+    s.add(check(0, bytes(8) + b"TWO.ONE."))
+    s.add(write_here(4, b"ZEROone.two.FOUR"), count=4, pointer=4, size=24)
+    s.add(check(0, b"ZERO" + bytes(4) + b"two.one." + bytes(4) + b"FOUR"))
+    yield s
+    s = Trace("an etype of two entries that interlaces with itself")
+    s.open(3)
+    s.set(Shape((1, 1), (0, 3), 1, (0,), 2))
+    s.add(write_here(3, b"AaBbCc"), count=3, pointer=3, size=8)
+    s.add(check(0, b"A\0BaCb\0c"))
+    s.add(read_at(0, 4), count=3)
+    s.refused(10, set_view(Shape((1, 2), (0, 3), 1, (0,), 2)), set_view(Shape((1, 1), (0, 4), 1, (0,), 2)))
+    yield s
+
+
 def records_across(border, before):
     """A trace in which a record begins this many bytes before a place that is a multiple of 64 KiB; the file is all 0 up to there."""
     s = Trace(f"a record that begins {before} bytes before byte {border}")
@@ -480,7 +553,7 @@ def pieces():
 
 
 def small():
-    for some in (whole_traces, cut_records, unknown_tags, bad_lengths, bad_counts, bad_begins, pieces):
+    for some in (whole_traces, interlaced_traces, cut_records, unknown_tags, bad_lengths, bad_counts, bad_begins, pieces):
         yield from some()
 
 

@@ -13,7 +13,7 @@ from scripts import (ALL_ONES, LARGEST, SMALLEST, Shape, end, field, file_record
 
 MEGA = 1_048_576
 RECORDS = (480, 620)
-DAMAGES = (2, 3, 4, 5, 6, 6, 7, 7, 9, 9, 9, 10, 10, 10, 17, 18, 18, 19)  # the refusals that a damaged set aims at
+DAMAGES = (2, 3, 4, 5, 6, 6, 7, 7, 7, 9, 9, 10, 10, 10, 10, 10, 17, 18, 18, 19)  # the refusals that a damaged set aims at
 ETYPE_ENTRIES, MANY_ENTRIES = (1, 1, 1, 2, 2, 2, 3, 3, 4, 5, 8), (3, 4, 5, 8)
 ONE_OR_BOTH = (("etype",), ("filetype",), ("filetype",), ("etype", "filetype"))  # the types that a damage breaks
 BAD_WIDTHS = (0, 3, 5, 6, 7, 9, 16, 2**32 + 1, ALL_ONES)
@@ -21,11 +21,14 @@ BAD_EXTENTS = (0, -1, MEGA + 1, LARGEST, SMALLEST)
 BAD_REPRESENTATIONS = tuple(bad_names())
 
 
+INTERLACED = 0.45  # the part of the views for writing whose tiles are to interlace
+
+
 class Shapes:
     """Views that keep the rules, for reading only or for writing too."""
 
     def __init__(self, rng):
-        self.rng = rng
+        self.rng, self.interlacing = rng, Interlacing(rng)
 
     def etype(self, writing, entries):
         n = self.rng.choice(entries)
@@ -61,15 +64,81 @@ class Shapes:
         extents = [f for f in extents if f >= least and (f <= whole or (f - whole) % extent == 0)]
         return self.rng.choice(extents) if extents else whole + -(-(least - whole) // extent) * extent
 
+    def displacement(self):
+        return self.rng.choice((0, 0, 0, 0, 1, 3, 20, 100, self.rng.randrange(200), 2**40))
+
     def shape(self, writing, entries=ETYPE_ENTRIES):
         """A view whose etype has one of these numbers of entries."""
+        if writing and self.rng.random() < INTERLACED:
+            return replace(self.interlacing.shape(entries), displacement=self.displacement())
         widths, displacements = self.etype(writing, entries)
         extent = self.etype_extent(widths, displacements)
         span = displacements[-1] + (widths[-1] if writing else 0) - displacements[0]
         origins = self.origins(span, extent, len(widths))
         least = max(1, origins[-1] - origins[0] + span if writing else 1)
-        displacement = self.rng.choice((0, 0, 0, 0, 1, 3, 20, 100, self.rng.randrange(200), 2**40))
-        return Shape(widths, displacements, extent, origins, self.filetype_extent(least, origins[-1], extent), displacement)
+        return Shape(widths, displacements, extent, origins, self.filetype_extent(least, origins[-1], extent), self.displacement())
+
+
+class Interlacing:
+    """Views for writing whose tiles interlace: F is below the way from the first byte to the last, and no two bytes clash."""
+
+    def __init__(self, rng):
+        self.rng = rng
+
+    def shape(self, entries):
+        """Tries until one interlaces; at last bytes with K and m as in interlaced.py's `multiples`."""
+        for _ in range(6):
+            shape = self.tried(self.rng.choice(entries))
+            if shape:
+                return shape
+        k = self.rng.choice((2, 3, 5))
+        return Shape((1,), (0,), 1, tuple(range(0, k * (k + 1), k + 1)), k)
+
+    def tried(self, n):
+        """An etype of n entries and some instances of it, each where its bytes are free modulo F; None if the tiles do not interlace."""
+        widths = tuple(self.rng.choice((1, 1, 2, 4, 8)) for _ in range(n))
+        size, wanted = sum(widths), min(self.rng.choice((1, 2, 2, 2, 3, 3, 4, 5, 7, 64)), 256 // n)
+        f = size * wanted + self.rng.choice((0, 0, 0, 1, 2, 5, size))
+        displacements = self.etype(widths, f)
+        reach = displacements[-1] + widths[-1]
+        extent = self.rng.choice((1, 1, 2, size, size, size, reach, f))
+        origins = self.origins(widths, displacements, extent, f, wanted) if displacements else ()
+        hole = f - origins[-1] - extent if origins else 1
+        if not origins or hole > 0 and hole % extent or origins[-1] - origins[0] + reach - displacements[0] <= f:
+            return None
+        return Shape(widths, displacements, extent, origins, f)
+
+    def remainders(self, widths, displacements, origin, f):
+        return {(origin + d + index) % f for w, d in zip(widths, displacements) for index in range(w)}
+
+    def etype(self, widths, f):
+        """Displacements that rise and whose bytes do not clash: most lie end to end, some one or two tiles further on."""
+        displacements, end, used = [], self.rng.choice((0, 0, 0, 1, 2, 8)), set()
+        for w in widths:
+            steps = self.rng.choice(((0,), (0,), (0, 1, 2), (f, f + 1, 0), range(f, 3 * f)))
+            free = [end + by for by in steps if used.isdisjoint(self.remainders((w,), (end + by,), 0, f))]
+            free = free or [end + by for by in range(f) if used.isdisjoint(self.remainders((w,), (end + by,), 0, f))] or [end]
+            displacements.append(self.rng.choice(free[:8]))
+            used |= self.remainders((w,), displacements[-1:], 0, f)
+            end = displacements[-1] + w
+        return tuple(displacements)
+
+    def origins(self, widths, displacements, extent, f, wanted):
+        """Up to so many origins, with holes of whole extents only; many lie more than a tile after the one before."""
+        first, least = extent * self.rng.choice((0, 0, 0, 0, 1, 2)), displacements[-1] + widths[-1] - displacements[0]
+        origins, used = [first], self.remainders(widths, displacements, first, f)
+        if len(used) < sum(widths):
+            return ()
+        while len(origins) < wanted:
+            far = -(-f // extent) * extent * self.rng.choice((0, 1, 1, 2))
+            steps = [far + by for by in (*range(extent, 12 * extent + 1, extent), self.rng.randrange(extent + 1), f // extent * extent)]
+            steps = [by for by in steps if by >= least and (by <= extent or by % extent == 0)]
+            free = [by for by in steps if used.isdisjoint(self.remainders(widths, displacements, origins[-1] + by, f))]
+            if not free:
+                break
+            origins.append(origins[-1] + self.rng.choice(free[:4]))
+            used |= self.remainders(widths, displacements, origins[-1], f)
+        return tuple(origins)
 
 
 class Damage:
@@ -161,12 +230,57 @@ class Damage:
         return replace(request, filetype_displacements=numbers[:first] + tuple(d + by for d in numbers[first:]))
 
     def refusal_10(self, request):
-        return self.rng.choice((self.near_tiles, self.near_groups, self.near_groups, self.near_entries))(request)
+        return self.rng.choice((self.near_tiles, self.near_tiles, self.short_tile, self.near_groups, self.near_groups, self.near_entries,
+                                self.wider, self.late_group, self.late_group, self.late_entry))(request)
+
+    def short_tile(self, request):
+        """A tile that is shorter than one of the entries."""
+        width = self.rng.choice(request.filetype_widths or (2,))
+        return replace(request, filetype_extent=max(1, min(width, 8) - self.rng.choice((1, 1, 2, 5))))
+
+    def late_group(self, request):
+        """A group and all later ones move so that one of its bytes lies a few tiles after an earlier one."""
+        n, numbers, widths, f = len(request.etype_widths), request.filetype_displacements, request.filetype_widths, request.filetype_extent
+        if not n or len(numbers) != len(widths) or len(numbers) < 2 * n or f < 1:
+            return request
+        first = n * self.entry(numbers[::n], 1)
+        if not n <= first < len(numbers):
+            return request
+        by = self.clash_step(numbers, widths, f, range(first, min(first + n, len(numbers))), first)
+        return replace(request, filetype_displacements=numbers[:first] + tuple(d + by for d in numbers[first:]))
+
+    def late_entry(self, request):
+        """The same of an entry of the etype, in each group."""
+        n, numbers, f = len(request.etype_widths), request.etype_displacements, request.filetype_extent
+        if n < 2 or len(numbers) != n or len(request.filetype_displacements) % n or f < 1:
+            return request
+        first = self.entry(numbers, 1)
+        by = self.clash_step(numbers, request.etype_widths, f, [first], first)
+        moved = tuple(d + by * (i % n >= first) for i, d in enumerate(request.filetype_displacements))
+        if len(moved) > n:  # the groups keep their distance
+            moved = tuple(d + by * (i // n) for i, d in enumerate(moved))
+        return replace(request, etype_displacements=numbers[:first] + tuple(d + by for d in numbers[first:]), filetype_displacements=moved)
+
+    def clash_step(self, numbers, widths, f, entries, before):
+        """By how much one of these entries must move up for its first or last byte to clash with one before the entry `before`."""
+        entry, other = self.rng.choice(entries), self.rng.randrange(before)
+        own = numbers[entry] + self.rng.choice((0, max(widths[entry], 1) - 1))
+        return (numbers[other] + self.rng.randrange(min(max(widths[other], 1), 16)) - own) % f
+
+    def wider(self, request):
+        """An entry of the etype becomes twice as wide, in each group."""
+        n = len(request.etype_widths)
+        if not n or len(request.filetype_widths) % n:
+            return request
+        entry = self.entry(request.etype_widths)
+        widths = request.etype_widths[:entry] + (request.etype_widths[entry] * 2,) + request.etype_widths[entry + 1:]
+        return replace(request, etype_widths=widths, filetype_widths=widths * (len(request.filetype_widths) // n))
 
     def near_tiles(self, request):
         numbers, widths = request.filetype_displacements or (0,), request.filetype_widths or (1,)
         span = numbers[-1] + widths[-1] - numbers[0]
-        return replace(request, filetype_extent=max(1, span - self.rng.choice((1, 1, 2, span))))
+        f = request.filetype_extent
+        return replace(request, filetype_extent=max(1, self.rng.choice((span - 1, span - 1, span - 2, 1, f - 1, f - 1, f + 1, f // 2))))
 
     def near_groups(self, request):
         """A group begins before the one before it ends; it and all later ones move."""

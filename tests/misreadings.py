@@ -355,49 +355,6 @@ class FirstEntryFor9(FinalHole):
         return 0
 
 
-# 10
-
-class EarlierFor10(Rules):
-    """10: the earlier of two neighbours"""
-
-    seen_by = {10}
-
-    def overlapping_neighbours(self, filetype):
-        return [entry - 1 for entry in super().overlapping_neighbours(filetype)]
-
-
-class LastGroupFor10(Rules):
-    """10: an overlap with the next tile names the first entry of the last group"""
-
-    seen_by = {10}
-
-    def overlap_faults(self, etype, filetype):
-        found = list(super().overlap_faults(etype, filetype))
-        if any(self.overlapping_neighbours(filetype)):
-            return found
-        return [replace(fault, entry=fault.entry - fault.entry % len(etype.widths)) for fault in found]
-
-
-class FirstEntryFor10(Rules):
-    """10: an overlap with the next tile names entry 0"""
-
-    seen_by = {10}
-
-    def overlap_faults(self, etype, filetype):
-        found = list(super().overlap_faults(etype, filetype))
-        return found if any(self.overlapping_neighbours(filetype)) else [replace(fault, entry=0) for fault in found]
-
-
-class TilesFirst(Rules):
-    """10: an overlap with the next tile before those of neighbours"""
-
-    seen_by = {10}
-
-    def overlap_faults(self, etype, filetype):
-        found = list(super().overlap_faults(etype, filetype))
-        return found[::-1] if self.tiles_overlap(filetype) else found
-
-
 # All
 
 class LastFault(Rules):
@@ -421,8 +378,8 @@ class LastFault(Rules):
     def hole_faults(self, etype, filetype):
         return self.last(super().hole_faults(etype, filetype))
 
-    def overlap_faults(self, etype, filetype):
-        return self.last(super().overlap_faults(etype, filetype))
+    def clash_faults(self, etype, filetype):
+        return self.last(super().clash_faults(etype, filetype))
 
 
 class EntriesFromOne(Rules):

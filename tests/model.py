@@ -1,7 +1,7 @@
-"""The second program: document 01's rules with document 02's order 1 in plain Python, and the lines that docs/conformance.md asks for.
+"""The second program: document 01's rules with document 02's orders 1 and 3 in plain Python, and the lines of docs/conformance.md.
 
 It is written from these papers alone, without a look at the library, and is to be read against them:
-it is slow wherever that is plainer. `Rules` holds document 01 with order 1, `Driver` the script, `run` makes the lines.
+it is slow wherever that is plainer. `Rules` holds document 01 with these orders, `Driver` the script, `run` makes the lines.
 """
 
 from dataclasses import dataclass, replace
@@ -102,7 +102,7 @@ REFUSED_HANDLE = Handle(0, 0, DEFAULT_VIEW)
 
 
 class Rules:
-    """Document 01 with order 1. A handle comes in and goes back as a value; lent lists and buffers are changed in place."""
+    """Document 01 with the orders 1 and 3. A handle comes in and goes back as a value; lent lists and buffers are changed in place."""
 
     # When a view is accepted. Of a rule that a list of entries can break there is a method that gives all the faults in the order in
     # which they are to be found; a set is refused with the first one.
@@ -162,23 +162,27 @@ class Rules:
             if hole % etype.extent != 0:
                 yield Fault(9, FILETYPE, entry)
 
-    def overlapping_neighbours(self, filetype):
-        """The entries that begin before the one before them ends."""
-        entries = filetype.entries()
-        for entry, ((w, d), (_, following)) in enumerate(zip(entries, entries[1:]), 1):
-            if d + w > following:
+    def clash_step(self, etype, filetype):
+        """Two different data bytes clash if their places differ by a multiple of this, zero included."""
+        return filetype.extent
+
+    def remainders(self, etype, filetype):
+        """Of each entry of the filetype the places of its bytes modulo F: two bytes with the same remainder clash."""
+        step = self.clash_step(etype, filetype)
+        return [[place % step for place in range(d, d + w)] for w, d in filetype.entries()]
+
+    def clashing_entries(self, etype, filetype):
+        """The entries that have a byte clashing with another byte of the entry or with a byte of an earlier entry."""
+        earlier = set()
+        for entry, own in enumerate(self.remainders(etype, filetype)):
+            if len(set(own)) < len(own) or not earlier.isdisjoint(own):
                 yield entry
+            earlier.update(own)
 
-    def tiles_overlap(self, filetype):
-        last_end = filetype.displacements[-1] + filetype.widths[-1]
-        return last_end > filetype.displacements[0] + filetype.extent
-
-    def overlap_faults(self, etype, filetype):
-        """10. Of two neighbours the later one is named, for an overlap with the next tile the last entry."""
-        for entry in self.overlapping_neighbours(filetype):
+    def clash_faults(self, etype, filetype):
+        """10."""
+        for entry in self.clashing_entries(etype, filetype):
             yield Fault(10, FILETYPE, entry)
-        if self.tiles_overlap(filetype):
-            yield Fault(10, FILETYPE, len(filetype.widths) - 1)
 
     def view_fault(self, mode, displacement, etype, filetype):
         """The first fault by the checks 3 to 7, 17 to 19, 9 and 10 in this order, or None."""
@@ -193,7 +197,7 @@ class Rules:
             return Fault(5)
         checks = [self.entry_faults, self.order_faults, self.built_faults, self.hole_faults]
         if mode in WRITING:
-            checks.append(self.overlap_faults)
+            checks.append(self.clash_faults)
         for check in checks:
             for fault in check(etype, filetype):
                 return fault
@@ -425,16 +429,17 @@ def checksum(numbers):
     return s
 
 
-@lru_cache(maxsize=256)
+@lru_cache(maxsize=1024)
 def file_checksum(data):
     return checksum(data)
 
 
-@lru_cache(maxsize=256)
+@lru_cache(maxsize=1024)
 def file_bytes(length, seed):
     return bytes((seed + 7 * i + i // 256) % 256 for i in range(length))
 
 
+@lru_cache(maxsize=1024)
 def handle_checksum(handle):
     view = handle.view
     return checksum((handle.mode, view.displacement, view.entries) + view.widths + view.displacements

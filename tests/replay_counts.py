@@ -3,6 +3,7 @@
 from collections import Counter
 
 from model import Rules
+from old_rule import is_interlaced
 from replayer import (BEGIN, CHECK, CUT_BODY, CUT_HEADER, FILE_LENGTH, LONG, OFFSET, OPEN, READ, SEEK, SET, SHORT, UNKNOWN, WRITE, Stop)
 from trace_records import LONGEST_BODY
 
@@ -22,6 +23,8 @@ SITUATIONS = (
     "growing writes", "growing writes with a gap", "writes that end at 32,768", "writes refused one past it",
     "writes granted with a longer buffer", "writes refused one byte short", "writes refused without a buffer",
     "writes with the longest body", "granted accesses of count 0", "accesses of a count above 2^32",
+    "granted accesses through interlaced views", "short reads through interlaced views", "growing writes through interlaced views",
+    "granted writes whose highest byte is none of the last etype's",
     "checks 0 below the size", "checks 0 across the size", "checks 0 past the size", "checks 0 that end at 32,768",
     "checks 0 of no bytes at 32,768", "checks 0 of the whole file", "checks 0 with a handle of mode 0",
     "checks 25 by one byte", "checks 25 past the size", "checks 25 that end at 32,769", "checks 25 of no bytes past 32,768",
@@ -69,7 +72,8 @@ def access_situations(step):
     explicit, count, granted = step.body.number(0) == 1, step.body.number(2), step.answer.refusal == 0
     name = f"granted {NAMES[step.tag]}s at an offset with the pointer above 0"
     return holding((name, explicit and granted and step.handle.pointer > 0), ("granted accesses of count 0", granted and count == 0),
-                   ("accesses of a count above 2^32", count > 2**32))
+                   ("accesses of a count above 2^32", count > 2**32),
+                   ("granted accesses through interlaced views", granted and step.answer.count > 0 and is_interlaced(step.handle)))
 
 
 def read_situations(step):
@@ -77,6 +81,7 @@ def read_situations(step):
     most = FILE_LENGTH // Rules().etype_size(step.handle.view)
     return access_situations(step) + holding(
         ("short reads", answer.refusal == 0 and answer.count < count),
+        ("short reads through interlaced views", answer.refusal == 0 and answer.count < count and is_interlaced(step.handle)),
         ("reads that move nothing of what was asked", answer.refusal == 0 and answer.count == 0 < count),
         ("reads of as many etypes as the buffer holds", answer.refusal == 0 and count == most),
         ("reads of one more, refused", answer.refusal == 13 and count == most + 1))
@@ -93,10 +98,11 @@ def write_places(step):
 def write_situations(step):
     count, n, refusal = step.body.number(2), step.body.number(3), step.answer.refusal
     wanted, places = count * Rules().etype_size(step.handle.view), write_places(step)
-    stop = max(places, default=-1) + 1
+    stop, last = max(places, default=-1) + 1, max(places[-Rules().etype_size(step.handle.view):], default=-1) + 1
     grown = refusal == 0 and stop > step.file.size
     return access_situations(step) + holding(
-        ("growing writes", grown),
+        ("growing writes", grown), ("growing writes through interlaced views", grown and is_interlaced(step.handle)),
+        ("granted writes whose highest byte is none of the last etype's", refusal == 0 and last < stop),
         ("growing writes with a gap", grown and stop - step.file.size > sum(place >= step.file.size for place in set(places))),
         ("writes that end at 32,768", refusal == 0 and stop == FILE_LENGTH),
         ("writes refused one past it", refusal == 14 and stop == FILE_LENGTH + 1),

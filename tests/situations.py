@@ -3,7 +3,8 @@
 The model's checks give all the faults of a rule; a situation says which of them is named and what else stands in the view.
 """
 
-from model import ETYPE, FILETYPE, WIDTHS, Fault, Rules, set_record
+from model import ETYPE, FILETYPE, WIDTHS, WRITING, Fault, Rules, set_record
+from old_rule import named_entries
 
 NAMES = {ETYPE: "etype", FILETYPE: "filetype"}
 RULES = ((6, ETYPE), (6, FILETYPE), (7, ETYPE), (7, FILETYPE), (9, FILETYPE), (10, FILETYPE), (18, FILETYPE))
@@ -17,15 +18,19 @@ BY_DISPLACEMENT = {refusal: f"{refusal} by a displacement alone" for refusal in 
 WIDTH_LATER = {refusal: f"{refusal} by a displacement alone, a later entry by its width" for refusal in (6, 18)}
 BELOW_TOO, DIFFERS_LATER = "18, an origin below 0 in the same group", "19, a later group differs"
 HOLES = {"first": "9, n > 1, the hole at 0", "middle": "9, n > 1, a hole in the middle", "last": "9, n > 1, the final hole"}
-NEIGHBOURS, TILES = "10, neighbours", "10, tiles"
+OWN, NEIGHBOUR, FARTHER = "10, bytes of one entry", "10, with the entry before alone", "10, with entries before that one alone"
+SAME, ONE_TILE, TILES = "10, by places that are equal", "10, by a difference of F alone", "10, by differences of 2F or more alone"
+ONE_BYTE, LAST_BYTE = "10, by one byte alone", "10, by the last byte of the filetype alone"
+OTHER_PLACE, NOT_TEN = "10, where order 1 named another entry", "7 for writing, where no bytes clash"
+CLASHES = (OWN, NEIGHBOUR, FARTHER, SAME, ONE_TILE, TILES, ONE_BYTE, LAST_BYTE, OTHER_PLACE)
 SITUATIONS = (*PLACES.values(), *SEVERAL.values(), *BOTH.values(), *LOWER.values(), *BY_WIDTH.values(), *BY_DISPLACEMENT.values(),
-              *WIDTH_LATER.values(), BELOW_TOO, DIFFERS_LATER, *HOLES.values(), NEIGHBOURS, TILES)
+              *WIDTH_LATER.values(), BELOW_TOO, DIFFERS_LATER, *HOLES.values(), *CLASHES, NOT_TEN)
 
 
 def every_fault(refusal, etype, filetype):
     """All faults that the check of this refusal finds, in its order."""
     rules = Rules()
-    checks = {6: rules.entry_faults, 7: rules.order_faults, 9: rules.hole_faults, 10: rules.overlap_faults, 18: rules.built_faults,
+    checks = {6: rules.entry_faults, 7: rules.order_faults, 9: rules.hole_faults, 10: rules.clash_faults, 18: rules.built_faults,
               19: rules.built_faults}
     return list(checks[refusal](etype, filetype))
 
@@ -33,7 +38,7 @@ def every_fault(refusal, etype, filetype):
 def part(named, entries):
     """Whether the first, a middle or the last entry is named, of those that this refusal can name among so many entries."""
     last = entries - 1
-    first = min(1, last) if named.refusal in (7, 10) else 0
+    first = 1 if named.refusal == 7 else 0
     return "first" if named.entry == first else "last" if named.entry == last else "middle"
 
 
@@ -67,6 +72,27 @@ def groups(named, faults, n):
         yield DIFFERS_LATER
 
 
+def clashes(named, filetype):
+    """10: the bytes of the entry that is named, each with the bytes before it that it clashes with, as an entry and a difference."""
+    w, d = filetype.entries()[named.entry]
+    earlier = enumerate(filetype.entries()[:named.entry])
+    before = [(entry, place) for entry, (width, first) in earlier for place in range(first, first + width)]
+    for place in range(d, d + w):
+        yield [(entry, place - other) for entry, other in before if (place - other) % filetype.extent == 0]
+        before.append((named.entry, place))
+
+
+def clash_situations(named, filetype):
+    bytes_of_entry = list(clashes(named, filetype))
+    pairs = [pair for found in bytes_of_entry for pair in found]
+    entries, differences = {entry for entry, _ in pairs}, {difference for _, difference in pairs}
+    alone, last, old = len(pairs) == 1, named.entry == len(filetype.widths) - 1, named_entries(filetype)
+    holds = (named.entry in entries, entries == {named.entry - 1}, max(entries) < named.entry - 1, 0 in differences,
+             differences == {filetype.extent}, min(differences) > filetype.extent, alone, alone and last and bool(bytes_of_entry[-1]),
+             bool(old) and old[0] != named.entry)
+    return [name for name, does in zip(CLASHES, holds) if does]
+
+
 def situations(step):
     """Names of SITUATIONS for a set that is refused with a type and an entry; none for any other."""
     if step.answer.refusal == 0 or step.answer.numbers[0] == 0:
@@ -87,5 +113,7 @@ def situations(step):
     if named.refusal == 9 and n > 1:
         found.append(HOLES[where])
     if named.refusal == 10:
-        found.append(NEIGHBOURS if list(Rules().overlapping_neighbours(new.filetype)) else TILES)
+        found += clash_situations(named, new.filetype)
+    if named.refusal == 7 and step.answer.handle.mode in WRITING and not list(Rules().clashing_entries(new.etype, new.filetype)):
+        found.append(NOT_TEN)
     return found

@@ -79,7 +79,7 @@ class Generator:
 
     def long_lists(self):
         """Lists that are longer than any view's, of equal or of unequal lengths; seldom as long as a body can hold."""
-        total = MOST_LISTED if self.chance(0.1) else self.rng.choice((258, 301, 600, 1200, 2500))
+        total = MOST_LISTED if self.chance(0.25) else self.rng.choice((258, 301, 600, 1200, 2500))
         cuts = sorted(self.rng.randint(0, total) for _ in range(3))
         lengths = [b - a for a, b in zip((0, *cuts), (*cuts, total))]
         if self.chance(0.4):
@@ -160,7 +160,7 @@ class Generator:
 
     def data(self, count):
         """A buffer for this many etypes: exact, longer, or too short; seldom the longest."""
-        if self.chance(0.004):
+        if self.chance(0.005):
             return self.rng.randbytes(LONGEST_WRITE)
         exact = min(count * self.etype_size(), 6_000)
         length = max(0, exact + self.rng.choice((0, 0, 0, 0, 0, 1, 5, 40, -1, -exact if self.chance(0.3) else 0)))
@@ -223,7 +223,7 @@ class Generator:
         return place, self.rng.choice((0, 1, 1, 2, 5, self.rng.randrange(60))) % (FILE_LENGTH - place + 1)
 
     def check_range(self):
-        if self.chance(0.03):
+        if self.chance(0.05):
             return self.check_long()
         place, length = self.range()
         self.emit(check(place, self.content()[place:place + length]))

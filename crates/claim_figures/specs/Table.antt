@@ -51,6 +51,9 @@ p8 = viewOn 0 wordAndByte (4 ∷ 1 ∷ 4 ∷ 1 ∷ []) (0 ∷ 4 ∷ 16 ∷ 20 �
 abbrev pub p9 : PaperView
 p9 = wordsOn 0 (4 ∷ []) 12
 
+abbrev pub p12 : PaperView
+p12 = viewOn 0 oneByte (1 ∷ 1 ∷ []) (0 ∷ 3 ∷ []) 2
+
 -- ---- the calls; of an answer always the refusal number, 0 if granted, and with it another number
 
 -- the set of a view after an open in this mode, its refusal numbers for modes 1, 2 and 3, and the handle that it gives back
@@ -91,9 +94,9 @@ ownerAs named x j = record { named = named; offset = record { 0 = pos x }; index
 abbrev pub threeRead : Handle → List ℕ → List (ℕ × ℕ)
 threeRead h sizes = map (λ n. let a = readAtAnswer h n (ofSize n) (pos 0) 3 12 in (a .refusal, a .count)) sizes
 
--- P9: the size after a write of 2 words at 0 into a file of size 0 and this length
-abbrev pub sizeAfter : ℕ → ℕ × ℕ
-sizeAfter len = let a = writeAtAnswer (handleOf 3 p9) len (ofSize 0) (pos 0) 2 8 in (a .refusal, a .file .size)
+-- P9, P12: the size after a write of c etypes at 0, of so many bytes, into a file of size 0 and this length
+abbrev pub sizeAfter : PaperView → ℕ → ℕ → ℕ → ℕ × ℕ
+sizeAfter v c bytes len = let a = writeAtAnswer (handleOf 3 v) len (ofSize 0) (pos 0) c bytes in (a .refusal, a .file .size)
 
 -- P10: a handle of pointer 5, and the pointer after a seek by d from there
 abbrev pub atFive : Handle
@@ -134,12 +137,14 @@ pub record Figures : Type 0 where
   pub p8-owners : ownersOf (handleOf 2 p8) (20 ∷ 21 ∷ 24 ∷ []) ≡ allGranted (ownerAs true 1 4 ∷ ownerAs false 0 0 ∷ ownerAs true 2 0 ∷ [])
   -- P9: size 0, length 20: a write of 2 words at 0 sets 4 to 7 and 16 to 19, zeros 0 to 3 and 8 to 15, size 20. Length 19: refusal 14. Here the words are 1, 2, 3, 4 and 5, 6, 7, 8, and 9 stood in each byte
   pub p9-set : refusalsByMode p9 ≡ (0 ∷ 0 ∷ 0 ∷ [])
-  pub p9-size : map sizeAfter (20 ∷ 19 ∷ []) ≡ ((0, 20) ∷ (14, 0) ∷ [])
+  pub p9-size : map (sizeAfter p9 2 8) (20 ∷ 19 ∷ []) ≡ ((0, 20) ∷ (14, 0) ∷ [])
   pub p9-bytes : writtenFile (handleOf 3 p9) (replicate 20 9) (ofSize 0) (pos 0) 2 (1 ∷ 2 ∷ 3 ∷ 4 ∷ 5 ∷ 6 ∷ 7 ∷ 8 ∷ []) ≡ (0 ∷ 0 ∷ 0 ∷ 0 ∷ 1 ∷ 2 ∷ 3 ∷ 4 ∷ 0 ∷ 0 ∷ 0 ∷ 0 ∷ 0 ∷ 0 ∷ 0 ∷ 0 ∷ 5 ∷ 6 ∷ 7 ∷ 8 ∷ [])
   -- P10: pointer 5: seek by -5 from the pointer gives 0, by -6 refusal 12, and so do the largest and the smallest signed offsets; the pointer stays
   pub p10-pointer : atFive .pointer ≡ 5
   pub p10-seek : map seekBy (negsuc 4 ∷ negsuc 5 ∷ pos 9223372036854775807 ∷ negsuc 9223372036854775807 ∷ []) ≡ ((0, 0) ∷ (12, 5) ∷ (12, 5) ∷ (12, 5) ∷ [])
   -- P11: default view, mode 3: read at 2^32 - 1 of 1 passes check 12; of 2 doesn't; at 2^32 of 0 moves 0
   pub p11-read : (readDefault 4294967295 1 ∷ readDefault 4294967295 2 ∷ readDefault 4294967296 0 ∷ []) ≡ ((0, 0) ∷ (12, 0) ∷ (0, 0) ∷ [])
-  -- P12: width 1, extent 1, entries 0 and 3, F = 2, writing: refusal 10
-  pub p12-set : refusalsByMode (viewOn 0 oneByte (1 ∷ 1 ∷ []) (0 ∷ 3 ∷ []) 2) ≡ (0 ∷ 10 ∷ 10 ∷ [])
+  -- P12, as order 3 has it: width 1, extent 1, entries 0 and 3, F = 2: accepted for writing, its bytes are 0, 3, 2, 5, 4, 7; entries 0 and 2 with F = 2: 10. Three bytes written at 0 end at 4
+  pub p12-set : map refusalsByMode (p12 ∷ viewOn 0 oneByte (1 ∷ 1 ∷ []) (0 ∷ 2 ∷ []) 2 ∷ []) ≡ ((0 ∷ 0 ∷ 0 ∷ []) ∷ (0 ∷ 10 ∷ 10 ∷ []) ∷ [])
+  pub p12-places : placesOf (handleOf 3 p12) (0 ∷ 1 ∷ 2 ∷ 3 ∷ 4 ∷ 5 ∷ []) ≡ allGranted (0 ∷ 3 ∷ 2 ∷ 5 ∷ 4 ∷ 7 ∷ [])
+  pub p12-size : map (sizeAfter p12 3 3) (4 ∷ 3 ∷ []) ≡ ((0, 4) ∷ (14, 0) ∷ [])

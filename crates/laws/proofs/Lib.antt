@@ -4,5 +4,6 @@ pub mod Sums
 pub mod Stores
 pub mod Quotients
 pub mod Runs
+pub mod Turns
 pub mod Signs
 pub mod Prelude

@@ -28,4 +28,5 @@ pub use Rattle.laws.proofs.Quotients.{next-in, next-over, run-below, ru
 pub use Rattle.laws.proofs.Stores.{front-at, front-past, length-store, length-tabulate, store-at, store-end, store-more, store-none, store-other, store-same, storing, tabulate-add, tabulate-at, tabulate-is, tabulate-same}
 pub use Rattle.laws.proofs.Sums.{Highest, greatest-above, greatest-least, greatest-one, greatest-same, highest-end, highest-more, highest-none, total-more, total-most, total-part, total-same}
 pub use Rattle.laws.proofs.Runs.{front-part, prefix, store-run, tail-back, tail-lent, take-front, upto}
+pub use Rattle.laws.proofs.Turns.{InTurn, turn-later, turn-lowest, turn-within}
 pub use Rattle.laws.proofs.Signs.{minus-negative, natural-fits, natural-sign, not-negative}

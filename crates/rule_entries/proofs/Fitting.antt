@@ -1,6 +1,6 @@
 -- What the loops of this crate test at one index, and that no sum of theirs wraps.
-use Rattle.laws.proofs.Prelude.{ℕ, _+_, _-_, _≤_, _<_, _≡_, sym, ap, _∙_, Bool, true, false, not, List, arith, length, getD, leb, w64, Fits, le-leb, lt-leb, le-ltb, lt-ltb, not-true, not-false, nth, leastFalse, least-false-le, all-intro, Passed, passed-more, passed-stop, passed-end, passed-fails, passed-holds}
-use Rattle.view.specs.Parts.{inOrder, ordered, EntriesValid, laterEntry}
+use Rattle.laws.proofs.Prelude.{ℕ, _+_, _-_, _≤_, _<_, _≡_, sym, ap, _∙_, Bool, true, false, not, List, arith, length, getD, leb, w64, Fits, le-leb, lt-leb, le-ltb, lt-ltb, not-true, not-false, nth, all, leastFalse, least-false-le, all-intro, Passed, passed-more, passed-stop, passed-end, passed-fails, passed-holds}
+use Rattle.view.specs.Parts.{inOrder, EntriesValid}
 use Rattle.rule_limits.specs.Parts.{entryFits}
 use Rattle.rule_entries.specs.Parts.{entryFitsAt, apartAt, apartIn, ListsReady}
 
@@ -31,18 +31,6 @@ below-found ds i s l h = ap (λ (z : ℕ). z + 1) (passed-stop (inOrder (nth ds)
 
 pub below-end : (ds : List ℕ) (i : ℕ) → Passed (inOrder (nth ds)) i (length ds - 1) → length ds - 1 ≤ i → (length ds ≡ 0 → ⊥) → length ds ≡ leastFalse (inOrder (nth ds)) (length ds - 1) + 1
 below-end ds i s l h = omega (arith, passed-end (inOrder (nth ds)) i (length ds - 1) s l, s .reached)
-
-pub ordered-none : (ds : List ℕ) → length ds ≡ 0 → true ≡ ordered (nth ds) (length ds)
-unfolding ordered
-ordered-none ds h = sym (all-intro _ (length ds - 1) (λ k l. absurd (omega arith)))
-
-pub ordered-fails : (ds : List ℕ) (i : ℕ) → Passed (inOrder (nth ds)) i (length ds - 1) → i < length ds - 1 → inOrder (nth ds) i ≡ false → false ≡ ordered (nth ds) (length ds)
-unfolding ordered
-ordered-fails ds i s l h = passed-fails (inOrder (nth ds)) i (length ds - 1) s l h
-
-pub ordered-holds : (ds : List ℕ) (i : ℕ) → Passed (inOrder (nth ds)) i (length ds - 1) → length ds - 1 ≤ i → true ≡ ordered (nth ds) (length ds)
-unfolding ordered
-ordered-holds ds i s l = passed-holds (inOrder (nth ds)) i (length ds - 1) s l
 
 -- ---- entries apart
 
@@ -84,29 +72,21 @@ module _ (ws ds : List ℕ) (f i : ℕ) (s : Passed (apartIn ws ds f) i (length 
   pub pair-more : i < length ws - 1 → apartIn ws ds f i ≡ true → Passed (apartIn ws ds f) (i + 1) (length ws)
   pair-more l h = passed-more (apartIn ws ds f) i (length ws) s (omega arith) h
 
-  pub overlap-inner : i < length ws - 1 → apartIn ws ds f i ≡ false → i + 1 ≡ laterEntry (leastFalse (apartIn ws ds f) (length ws)) (length ws)
-  unfolding laterEntry
-  overlap-inner l h =
-      let e = passed-stop (apartIn ws ds f) i (length ws) s (omega arith) h in
-      rw (sym e, lt-ltb (i + 1) (length ws) (omega arith))
+  pub apart-fails : i < length ws - 1 → apartIn ws ds f i ≡ false → false ≡ all (apartIn ws ds f) (length ws)
+  apart-fails l h = passed-fails (apartIn ws ds f) i (length ws) s (omega arith) h
 
   module _ (some : 0 < length ws) (l : length ws - 1 ≤ i) (h : i ≤ length ws - 1) where
-    at : i ≡ length ws - 1
-    at = omega arith
+    at-last : i ≡ length ws - 1
+    at-last = omega arith
 
-    pub overlap-tile : getD ds 0 0 + f < getD ds (length ws - 1) 0 + getD ws (length ws - 1) 0 → length ws - 1 ≡ laterEntry (leastFalse (apartIn ws ds f) (length ws)) (length ws)
-    unfolding laterEntry apartIn
-    overlap-tile o =
-        let e = passed-stop (apartIn ws ds f) i (length ws) s (omega arith) (rw at (over o)) in
-        rw (sym e, le-ltb (i + 1) (length ws) (omega arith)) (sym at)
+    -- the last entry decides
+    last-is : leb (getD ds (length ws - 1) 0 + getD ws (length ws - 1) 0) (getD ds 0 0 + f) ≡ apartIn ws ds f (length ws - 1)
+    unfolding apartIn
+    last-is = rw (le-ltb (length ws - 1 + 1) (length ws) (omega arith))
+
+    pub apart-last : leb (getD ds (length ws - 1) 0 + getD ws (length ws - 1) 0) (getD ds 0 0 + f) ≡ all (apartIn ws ds f) (length ws)
+    apart-last = decided (leb (getD ds (length ws - 1) 0 + getD ws (length ws - 1) 0) (getD ds 0 0 + f)) last-is
       where
-        over : getD ds 0 0 + f < getD ds (length ws - 1) 0 + getD ws (length ws - 1) 0 → apartIn ws ds f (length ws - 1) ≡ false
-        over o = rw (le-ltb (length ws - 1 + 1) (length ws) (omega arith)) (lt-leb _ _ o)
-
-    pub overlap-none : getD ds (length ws - 1) 0 + getD ws (length ws - 1) 0 ≤ getD ds 0 0 + f → length ws ≡ laterEntry (leastFalse (apartIn ws ds f) (length ws)) (length ws)
-    unfolding laterEntry apartIn
-    overlap-none o =
-        let q = passed-more (apartIn ws ds f) i (length ws) s (omega arith) (rw at (rw (le-ltb (length ws - 1 + 1) (length ws) (omega arith)) (le-leb _ _ o))) in
-        let e = passed-end (apartIn ws ds f) (i + 1) (length ws) q (omega arith) in
-        let m : leastFalse (apartIn ws ds f) (length ws) ≡ length ws = omega (arith, e) in
-        rw (m, le-ltb (length ws + 1) (length ws) (omega arith))
+        decided : (t : Bool) → t ≡ apartIn ws ds f (length ws - 1) → t ≡ all (apartIn ws ds f) (length ws)
+        decided true e = passed-holds (apartIn ws ds f) (i + 1) (length ws) (passed-more (apartIn ws ds f) i (length ws) s (omega arith) (rw at-last (sym e))) (omega arith)
+        decided false e = passed-fails (apartIn ws ds f) i (length ws) s (omega arith) (rw at-last (sym e))

@@ -4,7 +4,7 @@ ghost use Prim.Native.Nat.{_≤_, _+_, _-_};
 ghost use lib.ListN.{length};
 ghost use Rattle.laws.specs.Lists.{nth};
 ghost use Rattle.laws.specs.Search.{leastFalse, all};
-ghost use Rattle.view.specs.Parts.{maxEtypeEntries, inOrder, ordered, EntriesValid, laterEntry};
+ghost use Rattle.view.specs.Parts.{maxEtypeEntries, inOrder, ordered, EntriesValid};
 ghost use Rattle.rule_entries.specs.Parts.{entryFitsAt, apartAt, apartIn, ListsReady};
 use view::PerEntry;
 
@@ -43,26 +43,6 @@ pub fn first_out_of_order(ds: &[u64]) -> usize
     ds.len()
 }
 
-// Whether displacements never decrease. For our own crates.
-// Check 1 asks this in every call and needs no entry, so it has a loop of its own, which takes fewer instructions than `first_out_of_order`.
-pub fn never_decrease(ds: &[u64]) -> bool
-    ensures { λ r. ⌜ r ≡ ordered (nth (now (ds .entry))) (length (now (ds .entry))) ⌝ }
-{
-    if ds.len() == 0 {
-        return true;
-    }
-    let last = ds.len() - 1;
-    let mut i = 0;
-    while i < last {
-        let next = i + 1;
-        if ds[next] < ds[i] {
-            return false;
-        }
-        i += 1;
-    }
-    true
-}
-
 // Whether each entry of the etype ends at or before the next one begins. For our own crates.
 pub fn entries_apart<'a>(entries: u64, widths: &'a PerEntry, displacements: &'a PerEntry) -> bool
     requires { ⌜ EntriesValid entries (now widths) (now displacements) ⌝ }
@@ -82,10 +62,10 @@ pub fn entries_apart<'a>(entries: u64, widths: &'a PerEntry, displacements: &'a 
     true
 }
 
-// The first entry of a filetype that begins before the one before it ends, or the last entry if it reaches into the next tile; the number of entries if there is none. For our own crates.
-pub fn first_overlap(ws: &[u64], ds: &[u64], extent: u64) -> usize
+// Whether each entry of a filetype ends at or before the next one begins, the last one before the first one of the next tile. For our own crates.
+pub fn filetype_apart(ws: &[u64], ds: &[u64], extent: u64) -> bool
     requires { ⌜ ListsReady (now ws) (now ds) extent ⌝ }
-    ensures { λ r. ⌜ r ≡ laterEntry (leastFalse (apartIn (now (ws .entry)) (now (ds .entry)) extent) (length (now (ws .entry)))) (length (now (ws .entry))) ⌝ }
+    ensures { λ r. ⌜ r ≡ all (apartIn (now (ws .entry)) (now (ds .entry)) extent) (length (now (ws .entry))) ⌝ }
 {
     let last = ws.len() - 1;
     let mut i = 0;
@@ -93,14 +73,10 @@ pub fn first_overlap(ws: &[u64], ds: &[u64], extent: u64) -> usize
         let end = ds[i] + ws[i];
         let next = i + 1;
         if ds[next] < end {
-            return next;
+            return false;
         }
         i += 1;
     }
     let end = ds[last] + ws[last];
-    let next_tile = ds[0] + extent;
-    if next_tile < end {
-        return last;
-    }
-    ws.len()
+    end <= ds[0] + extent
 }

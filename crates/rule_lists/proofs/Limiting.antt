@@ -3,8 +3,8 @@ use Rattle.laws.proofs.Prelude.{ℕ, _≡_, refl, sym, _∙_, Bool, true, false
 use Rattle.view.specs.Limits.{extentAllowed, displacementAllowed}
 use Rattle.view.specs.Modes.{allowsWriting}
 use Rattle.view.specs.Types.{PaperView, entries}
-use Rattle.view.specs.Rules.{isNative, paired, entriesAllowed, typeOrdered, wholeGroups, viewHolesFit, apart}
-use Rattle.view.specs.Parts.{groupMatches, originAllowed, decidingGroup}
+use Rattle.view.specs.Rules.{isNative, paired, entriesAllowed, typeOrdered, wholeGroups, viewHolesFit}
+use Rattle.view.specs.Parts.{groupMatches, originAllowed, decidingGroup, clear}
 use Rattle.view.specs.Acceptance.{viewRefusal, setRefusal}
 use Rattle.rule_limits.specs.Parts.{lengthsAllowed}
 use Rattle.rule_lists.specs.Parts.{limitsRefusal}
@@ -26,7 +26,7 @@ from7 mode v =
     (check (groupMatches v (decidingGroup v)) 18
     (check (originAllowed v (decidingGroup v)) 19
     (check (viewHolesFit v) 9
-    (check (either (not (allowsWriting mode)) (apart v)) 10
+    (check (either (not (allowsWriting mode)) (clear v)) 10
     0)))))
 
 pub chain-is : (mode : ℕ) (r : List ℕ) (v : PaperView) → setRefusal mode r v ≡ upTo6 r v (from7 mode v)

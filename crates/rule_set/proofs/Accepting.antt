@@ -3,10 +3,11 @@ use Rattle.laws.proofs.Prelude.{ℕ, _+_, _-_, _*_, _%_, _≤_, _<_, _≡_, ref
 use Rattle.view.specs.declared.Named.{Named}
 use Rattle.view.specs.declared.Named.the-variants.{FiletypeEntry}
 use Rattle.view.specs.Types.{PaperView, entries, widthAt, displacementAt, extentOf, whole}
-use Rattle.view.specs.Rules.{typeOrdered, wholeGroups, instances, origin, holeAllowed, viewHolesFit, nextBegins, entryApart, apart}
-use Rattle.view.specs.Parts.{inOrder, ordered, holesFit, entryMatches, groupMatches, originAllowed, groupBuilt, decidingGroup, orderEntry, ofBoth, differingEntry, belowEntry, holeNames, holeEntry, laterEntry, overlapEntry, namedBy, faultOf, faultBy, recordOf}
+use Rattle.view.specs.Rules.{typeOrdered, wholeGroups, instances, origin, holeAllowed, viewHolesFit}
+use Rattle.view.specs.Parts.{inOrder, ordered, holesFit, entryMatches, groupMatches, originAllowed, groupBuilt, decidingGroup, orderEntry, ofBoth, differingEntry, belowEntry, holeNames, holeEntry, nextBegins, entryApart, apart, clearOf, entryClear, clear, overlapEntry, namedBy, faultOf, faultBy, recordOf}
 use Rattle.view.specs.Modes.{allowsWriting}
-use Rattle.view.proofs.Accepted.{type-entry, extent-small}
+use Rattle.view.proofs.Accepted.{type-entry, extent-small, width-small, spaced}
+use Rattle.view.proofs.Clashing.{apart-or-clear}
 use Rattle.view.proofs.Groups.{groups-whole, groups-some}
 use Rattle.view.proofs.Holding.{held-at}
 use Rattle.rule_instances.proofs.Holes.{hole-same}
@@ -149,9 +150,24 @@ module _ (v : PaperView) (lim : Limited v) where
   unfolding apart entries
   apart-same = all-same _ _ (length (v .filetype .widths)) apart-at
 
+  clear-at : (i : ℕ) → i < entries (v .filetype) → entryClear (nth (v .filetype .widths)) (nth fd) (extentOf (v .filetype)) i ≡ entryClear (widthAt (v .filetype)) (displacementAt (v .filetype)) (extentOf (v .filetype)) i
+  unfolding entryClear widthAt
+  clear-at i l =
+      let e : all (λ k. clearOf (extentOf (v .filetype)) (nth fd k % extentOf (v .filetype)) (nth (v .filetype .widths) k) (nth fd i % extentOf (v .filetype)) (nth (v .filetype .widths) i)) i ≡ all (λ k. clearOf (extentOf (v .filetype)) (displacementAt (v .filetype) k % extentOf (v .filetype)) (nth (v .filetype .widths) k) (displacementAt (v .filetype) i % extentOf (v .filetype)) (nth (v .filetype .widths) i)) i = all-same _ _ i (λ k h. rw (fd-at k (omega arith), fd-at i l)) in
+      rw e
+
+  clear-same : all (entryClear (nth (v .filetype .widths)) (nth fd) (extentOf (v .filetype))) (length (v .filetype .widths)) ≡ clear v
+  unfolding clear entries
+  clear-same = all-same _ _ (length (v .filetype .widths)) clear-at
+
+  -- tiles in order, or no bytes that clash
+  overlap-same : either (all (apartIn (v .filetype .widths) fd (extentOf (v .filetype))) (length (v .filetype .widths))) (all (entryClear (nth (v .filetype .widths)) (nth fd) (extentOf (v .filetype))) (length (v .filetype .widths))) ≡ clear v
+  unfolding entries
+  overlap-same = (λ i. either (apart-same i) (clear-same i)) ∙ apart-or-clear v (spaced v (lim .filetype-extent) (lim .filetype-entries)) (file-counts v lim .0)
+
   names-10 : shapeNames (recordOf v) (v .filetype .widths) fd 10 ≡ namedBy v 10
   unfolding shapeNames groupsNames tileNames namedBy overlapEntry recordOf entries
-  names-10 = ap (λ (i : ℕ). FiletypeEntry (laterEntry i (length (v .filetype .widths)))) (least-false-same _ _ (length (v .filetype .widths)) apart-at)
+  names-10 = ap FiletypeEntry (least-false-same _ _ (length (v .filetype .widths)) clear-at)
 
   names-17 : shapeNames (recordOf v) (v .filetype .widths) fd 17 ≡ namedBy v 17
   unfolding shapeNames groupsNames tileNames namedBy
@@ -176,7 +192,7 @@ module _ (v : PaperView) (lim : Limited v) where
       check-step f g _ _ 18 _ _ (decided-match whole) (λ x. fault-same names (namedBy v) 18 (names-18 whole x)) (λ m.
       check-step f g _ _ 19 _ _ (decided-origin whole) (λ x. fault-same names (namedBy v) 19 (names-19 whole m x)) (λ o.
       check-step f g _ _ 9 _ _ (view-holes-same whole) (λ x. fault-same names (namedBy v) 9 (names-9 whole)) (λ h.
-      check-step f g _ _ 10 _ _ (ap (either (not (allowsWriting mode))) apart-same) (λ x. fault-same names (namedBy v) 10 names-10) (λ p. fault-same names (namedBy v) 0 names-0))))))
+      check-step f g _ _ 10 _ _ (ap (either (not (allowsWriting mode))) overlap-same) (λ x. fault-same names (namedBy v) 10 names-10) (λ p. fault-same names (namedBy v) 0 names-0))))))
 
   pub shapes-same : (mode : ℕ) → shapesFault (recordOf v) (v .filetype .widths) fd mode ≡ faultBy (namedBy v) (viewRefusal mode v)
   shapes-same mode = shapes-from7 mode ∙ ap (faultBy (namedBy v)) (limited-chain mode v lim)
@@ -190,6 +206,10 @@ module _ (v : PaperView) (lim : Limited v) where
   unfolding entries widthAt
   file-ends i l = omega (arith, fd-at i l, type-entry (v .filetype) (lim .filetype-entries) i l .1)
 
+  file-widths : (i : ℕ) → i < length (v .filetype .widths) → (0 < nth (v .filetype .widths) i) × (nth (v .filetype .widths) i < 16)
+  unfolding entries widthAt
+  file-widths i l = let w = width-small _ (type-entry (v .filetype) (lim .filetype-entries) i l .0) in (omega (arith, w .0), omega (arith, w .1))
+
   pub ready : ShapesReady (recordOf v) (v .filetype .widths) (naturalsOf (v .filetype .displacements))
   unfolding recordOf extentOf
   ready = record {
@@ -200,5 +220,8 @@ module _ (v : PaperView) (lim : Limited v) where
     groups = sym (same-groups v lim);
     few = (few-instances v lim);
     ends = file-ends;
+    file-some = omega (arith, extent-small (v .filetype .extent) (lim .filetype-extent) .0);
     file-extent = extent-small (v .filetype .extent) (lim .filetype-extent) .1;
+    file-few = file-counts v lim .1;
+    widths = file-widths;
   }

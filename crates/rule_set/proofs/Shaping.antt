@@ -1,12 +1,13 @@
 -- The checks from 7 on on the records: each function's refusal number follows its chain, and what it names is what the chain's number names.
 use Rattle.laws.proofs.Prelude.{ℕ, _+_, _-_, _*_, _/_, _%_, _^_, _≤_, _<_, _≡_, refl, sym, ap, _∙_, Bool, true, false, not, List, ⊎-elim, arith, div-add-mod', div-le-self, eq-zero-or-pos, zero-mul, times-more, mul-le-mul-right, length, take, w64, Fits, getD-take, length-take-le, eqb, ltb, eq-eqb, ne-eqb, lt-ltb, le-ltb, also, either, check, check-step, nth, all, leastFalse, least-false-le, least-false-same, either-left, either-right, either-no, lt-or-le, check-yes, check-no, check-zero, check-inv, lit<, also-true, upto}
+use Rattle.laws.proofs.Searching.{all-yes, all-no}
 use Rattle.view.specs.declared.Fault.{Fault}
 use Rattle.view.specs.declared.Named.{Named}
 use Rattle.view.specs.declared.Named.the-variants.{Nothing, EtypeEntry, FiletypeEntry}
 use Rattle.view.specs.declared.Numbers.{Numbers}
 use Rattle.view.specs.declared.View.{View}
 use Rattle.view.specs.Modes.{allowsWriting}
-use Rattle.view.specs.Parts.{viewWith, inOrder, ordered, holesFit, holeNames, laterEntry, faultOf, faultBy}
+use Rattle.view.specs.Parts.{viewWith, inOrder, ordered, holesFit, holeNames, entryClear, faultOf, faultBy}
 use Rattle.view.proofs.Telling.{fault-by}
 use Rattle.rule_entries.specs.Parts.{apartIn}
 use Rattle.rule_instances.specs.Parts.{holeFits}
@@ -72,27 +73,8 @@ module _ (v : Numbers) (ws ds ps fw fd : List ℕ) (s : ShapesReady (viewWith v 
     extent = s .extent;
     groups = instances-all;
     lists = record { some = s .some; pairs = s .pairs; ends = s .ends; extent = s .file-extent };
+    keyed = record { some = s .some; few = s .file-few; pairs = s .pairs; some-extent = s .file-some; extent = s .file-extent; displacements = λ i l. omega (arith, s .ends i l); widths = s .widths };
   }
-
--- ---- the later of two entries is none of m exactly if the test holds everywhere
-
-module _ (p : ℕ → Bool) (m i : ℕ) (f : i ≡ laterEntry (leastFalse p m) m) where
-  later-no : i < m → all p m ≡ false
-  unfolding laterEntry all
-  later-no l = ne-eqb (leastFalse p m) m (λ q. absurd (past q))
-    where
-      past : leastFalse p m ≡ m → ⊥
-      past q = let g : i ≡ leastFalse p m = rw (le-ltb (leastFalse p m + 1) m (omega arith)) at f in omega arith
-
-  later-yes : m ≤ i → all p m ≡ true
-  unfolding laterEntry all
-  later-yes l = ⊎-elim (λ b. absurd (inner b)) (λ b. eq-eqb (leastFalse p m) m (last b)) (lt-or-le (leastFalse p m + 1) m)
-    where
-      inner : leastFalse p m + 1 < m → ⊥
-      inner b = let g : i ≡ leastFalse p m + 1 = rw (lt-ltb (leastFalse p m + 1) m b) at f in omega arith
-
-      last : m ≤ leastFalse p m + 1 → leastFalse p m ≡ m
-      last b = let g : i ≡ leastFalse p m = rw (le-ltb (leastFalse p m + 1) m b) at f in omega (arith, least-false-le p m)
 
 -- ---- holes: h is the first that does not fit
 
@@ -132,18 +114,27 @@ module _ (v : Numbers) (ps fw fd : List ℕ) (h : ℕ) (e : h ≡ leastFalse (ho
       overlap-unasked m q =
           fault-by (tileNames v ps fw fd) 0 _ Nothing r q refl (check-yes _ 9 _ 0 (holes-yes past) (check-yes _ 10 0 0 (either-left (not (allowsWriting mode)) _ (ap not (sym w) ∙ m)) refl))
 
-      module _ (m : not t ≡ false) (i : ℕ) (f : i ≡ laterEntry (leastFalse (apartIn fw fd (v .filetype .extent)) (length fw)) (length fw)) where
-        pub overlap-found : i < length fw → r ≡ faultOf 10 (FiletypeEntry i) → r ≡ tilesFault mode v ps fw fd
+      module _ (m : not t ≡ false) (walked : Bool) (a : walked ≡ all (apartIn fw fd (v .filetype .extent)) (length fw)) where
+        -- tiles are in order
+        pub tiles-apart : walked ≡ true → r ≡ faultOf 0 Nothing → r ≡ tilesFault mode v ps fw fd
         unfolding tilesFault tilesRefusal tileNames
-        overlap-found l q =
-            fault-by (tileNames v ps fw fd) 10 _ _ r q (ap FiletypeEntry f)
-            (check-yes _ 9 _ 10 (holes-yes past) (check-no _ 10 0 10 (either-no (not (allowsWriting mode)) _ (ap not (sym w) ∙ m) (later-no (apartIn fw fd (v .filetype .extent)) (length fw) i f l)) refl))
-
-        pub overlap-none : length fw ≤ i → r ≡ faultOf 0 Nothing → r ≡ tilesFault mode v ps fw fd
-        unfolding tilesFault tilesRefusal tileNames
-        overlap-none l q =
+        tiles-apart y q =
             fault-by (tileNames v ps fw fd) 0 _ Nothing r q refl
-            (check-yes _ 9 _ 0 (holes-yes past) (check-yes _ 10 0 0 (either-right (not (allowsWriting mode)) _ (later-yes (apartIn fw fd (v .filetype .extent)) (length fw) i f l)) refl))
+            (check-yes _ 9 _ 0 (holes-yes past) (check-yes _ 10 0 0 (either-right (not (allowsWriting mode)) _ (either-left _ _ (sym a ∙ y))) refl))
+
+        -- they are not: i is the first entry that clashes
+        module _ (n : walked ≡ false) (i : ℕ) (f : i ≡ leastFalse (entryClear (nth fw) (nth fd) (v .filetype .extent)) (length fw)) where
+          pub overlap-found : i < length fw → r ≡ faultOf 10 (FiletypeEntry i) → r ≡ tilesFault mode v ps fw fd
+          unfolding tilesFault tilesRefusal tileNames
+          overlap-found l q =
+              fault-by (tileNames v ps fw fd) 10 _ _ r q (ap FiletypeEntry f)
+              (check-yes _ 9 _ 10 (holes-yes past) (check-no _ 10 0 10 (either-no (not (allowsWriting mode)) _ (ap not (sym w) ∙ m) (either-no _ _ (sym a ∙ n) (all-no _ (length fw) i f (λ e. omega (arith, l, e))))) refl))
+
+          pub overlap-none : length fw ≤ i → r ≡ faultOf 0 Nothing → r ≡ tilesFault mode v ps fw fd
+          unfolding tilesFault tilesRefusal tileNames
+          overlap-none l q =
+              fault-by (tileNames v ps fw fd) 0 _ Nothing r q refl
+              (check-yes _ 9 _ 0 (holes-yes past) (check-yes _ 10 0 0 (either-right (not (allowsWriting mode)) _ (either-right _ _ (all-yes _ (length fw) i f (omega (arith, l, f, least-false-le (entryClear (nth fw) (nth fd) (v .filetype .extent)) (length fw)))))) refl))
 
 -- the hole's group begins at a number that fits
 pub hole-begins : (v : Numbers) (fw fd : List ℕ) (h : ℕ) → TilesReady v fw fd → h < v .filetype .instances → length fw < 2 ^ 64 → Fits w64 (h * v .etype .entries)

@@ -8,7 +8,7 @@ use lib.ListN.{length}
 use Rattle.laws.specs.Checks.{granted, also, either, check}
 use Rattle.laws.specs.Search.{leastFalse, all}
 use Rattle.laws.specs.Lists.{nth}
-use Rattle.view.specs.Parts.{EntriesValid, recordOf, namedBy, faultOf, faultBy, holeNames, laterEntry, defaultView, maxEtypeEntries, maxInstances, maxEntryEnd, maxExtent, inOrder, ordered, holesFit, entryEnd}
+use Rattle.view.specs.Parts.{EntriesValid, recordOf, namedBy, faultOf, faultBy, holeNames, entryClear, defaultView, maxEtypeEntries, maxFiletypeEntries, maxInstances, maxEntryEnd, maxExtent, inOrder, ordered, holesFit, entryEnd}
 use Rattle.view.specs.Limits.{etypeEntriesAllowed, filetypeEntriesAllowed, extentAllowed, displacementAllowed}
 use Rattle.view.specs.Modes.{allowsWriting}
 use Rattle.view.specs.Acceptance.{viewRefusal, setRefusal}
@@ -20,6 +20,7 @@ use Rattle.view.specs.declared.Named.the-variants.{Nothing, EtypeEntry, Filetyp
 use Rattle.view.specs.declared.Numbers.{Numbers}
 use Rattle.view.specs.declared.View.{View}
 use Rattle.rule_entries.specs.Parts.{apartIn, ListsReady}
+use Rattle.rule_overlap.specs.Parts.{EntriesReady}
 use Rattle.rule_instances.specs.Parts.{holeFits}
 use Rattle.rule_groups.specs.Parts.{groupMatchesAt, originAt, deciding, firstGroupFault}
 use Rattle.rule_set.specs.declared.Accepted.{Accepted}
@@ -56,11 +57,11 @@ pub record Limited (v : PaperView) : Type 0 where
   pub etype-entries : entriesAllowed (v .etype) ≡ true
   pub filetype-entries : entriesAllowed (v .filetype) ≡ true
 
--- checks 9 and 10, on a view's numbers v, its origins ps and the filetype's lists
+-- checks 9 and 10, on a view's numbers v, its origins ps and the filetype's lists; tiles in order have no bytes that clash
 unfoldable pub tilesRefusal : ℕ → Numbers → List ℕ → List ℕ → List ℕ → ℕ
 tilesRefusal mode v ps fw fd =
     check (holesFit (nth ps) (v .filetype .instances) (v .etype .extent) (v .filetype .extent)) 9
-    (check (either (not (allowsWriting mode)) (all (apartIn fw fd (v .filetype .extent)) (length fw))) 10
+    (check (either (not (allowsWriting mode)) (either (all (apartIn fw fd (v .filetype .extent)) (length fw)) (all (entryClear (nth fw) (nth fd) (v .filetype .extent)) (length fw)))) 10
     0)
 
 -- the entry that each of the two names
@@ -69,7 +70,7 @@ tileNames v ps fw fd n =
     let k = v .filetype .instances in
     let f = v .filetype .extent in
     cond (eqb n 9) (FiletypeEntry (holeNames k (v .etype .entries) (length fw) (leastFalse (holeFits ps k (v .etype .extent) f) (k + 1))))
-    (cond (eqb n 10) (FiletypeEntry (laterEntry (leastFalse (apartIn fw fd f) (length fw)) (length fw)))
+    (cond (eqb n 10) (FiletypeEntry (leastFalse (entryClear (nth fw) (nth fd) f) (length fw)))
     Nothing)
 
 unfoldable pub tilesFault : ℕ → Numbers → List ℕ → List ℕ → List ℕ → Fault
@@ -82,6 +83,7 @@ pub record TilesReady (v : Numbers) (fw fd : List ℕ) : Type 0 where
   pub extent : 0 < v .etype .extent
   pub groups : v .filetype .instances * v .etype .entries ≡ length fw
   pub lists : ListsReady fw fd (v .filetype .extent)
+  pub keyed : EntriesReady fw fd (v .filetype .extent)
 
 -- checks 17, 18, 19, 9 and 10, on the record and the filetype's lists
 module _ (w : View) (fw fd : List ℕ) where
@@ -135,7 +137,10 @@ pub record ShapesReady (v : View) (fw fd : List ℕ) : Type 0 where
   pub groups : v .numbers .filetype .instances ≡ length fd / v .numbers .etype .entries
   pub few : v .numbers .filetype .instances ≤ maxInstances
   pub ends : (i : ℕ) → i < length fw → entryEnd fw fd i ≤ maxEntryEnd
+  pub file-some : 0 < v .numbers .filetype .extent
   pub file-extent : v .numbers .filetype .extent ≤ maxExtent
+  pub file-few : length fw ≤ maxFiletypeEntries
+  pub widths : (i : ℕ) → i < length fw → (0 < nth fw i) × (nth fw i < 16)
 
 -- ---- what the parts of `accept` answer; the view is the default one if refused
 

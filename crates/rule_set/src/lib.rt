@@ -20,7 +20,7 @@ pub struct Accepted {
     pub view: View,
 }
 
-// What checks 9 and 10 say: the holes, and overlap where the mode allows writing. The first entry of the group after a hole is named, for the final hole the last entry.
+// What checks 9 and 10 say: the holes, and overlap where the mode allows writing. The first entry of the group after a hole is named, for the final hole the last entry; of overlap the first entry that clashes with itself or an earlier one, which is searched only where tiles are not in order.
 fn tiles_fault(mode: u64, v: Numbers, origins: &PerInstance, fw: &[u64], fd: &[u64]) -> Fault
     requires { ⌜ TilesReady v (now fw) (now fd) ⌝ }
     ensures { λ r. ⌜ r ≡ tilesFault mode v (now (origins .entry)) (now (fw .entry)) (now (fd .entry)) ⌝ }
@@ -40,9 +40,12 @@ fn tiles_fault(mode: u64, v: Numbers, origins: &PerInstance, fw: &[u64], fd: &[u
     if !View::allows_writing(mode) {
         return Fault::unnamed(0);
     }
-    let later = rule_entries::first_overlap(fw, fd, extent);
-    if later < fw.len() {
-        return Fault::of_filetype(View::REFUSED_OVERLAP, later);
+    if rule_entries::filetype_apart(fw, fd, extent) {
+        return Fault::unnamed(0);
+    }
+    let clash = rule_overlap::first_clash(fw, fd, extent);
+    if clash < fw.len() {
+        return Fault::of_filetype(View::REFUSED_OVERLAP, clash);
     }
     Fault::unnamed(0)
 }

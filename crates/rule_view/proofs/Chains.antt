@@ -2,15 +2,18 @@
 use Rattle.laws.proofs.Prelude.{ℕ, _+_, _-_, _*_, _≤_, _<_, _≡_, sym, ap, _∙_, Bool, true, false, not, List, arith, mul-le-mul, length, getD, take, getD-take, length-take-le, w64, Fits, leb-true, all, nth, also-inv, within-inv, unflag-true, unflag-false, all-at, all-same, greatest-least}
 use Rattle.view.specs.declared.Numbers.{Numbers}
 use Rattle.view.specs.Parts.{ordered, entryEnd, EntriesValid, reachOf}
+use Rattle.view.proofs.Accepted.{width-small}
 use Rattle.rule_limits.specs.Parts.{entryFits}
 use Rattle.rule_entries.specs.Parts.{entryFitsAt}
 use Rattle.rule_instances.specs.Parts.{OriginsValid, reachAt}
+use Rattle.sorting.specs.Parts.{neverDecreases}
+use Rattle.rule_overlap.specs.Parts.{RecordReady}
 use Rattle.rule_view.specs.Parts.{etypeAccepted, filetypeAccepted, ShapeValid}
 
 -- ---- the etype
 
-pub ordered-prefix : (ds : List ℕ) (n : ℕ) (t : Bool) → t ≡ ordered (nth (take n ds)) (length (take n ds)) → n ≤ length ds → t ≡ ordered (nth ds) n
-unfolding ordered
+pub ordered-prefix : (ds : List ℕ) (n : ℕ) (t : Bool) → t ≡ neverDecreases (take n ds) → n ≤ length ds → t ≡ ordered (nth ds) n
+unfolding ordered neverDecreases
 ordered-prefix ds n t h l =
     h ∙ rw (length-take-le n ds l)
     (all-same _ _ (n - 1) (λ i b. rw (getD-take n ds i 0 (omega arith), getD-take n ds (i + 1) 0 (omega arith))))
@@ -119,3 +122,28 @@ module _ (v : Numbers) (ws ds ps : List ℕ) where
 
   pub shape-flags : (t u : Bool) → t ≡ etypeAccepted (v .etype) ws ds → not t ≡ false → u ≡ filetypeAccepted v ws ds ps → not u ≡ false → ShapeValid v ws ds ps
   shape-flags t u a b c d = shape-valid (unflag-true t _ a b) (unflag-true u _ c d)
+
+  -- and for the entries' keys
+  groups-ready : etypeAccepted (v .etype) ws ds ≡ true → filetypeAccepted v ws ds ps ≡ true → RecordReady v ws ds ps
+  unfolding etypeAccepted filetypeAccepted entryFitsAt entryFits
+  groups-ready h g =
+      let s = shape-valid h g in
+      let a = also-inv _ _ g in
+      let b = also-inv _ _ (a .1) in
+      let c = also-inv _ _ (b .1) in
+      let f = also-inv _ _ (also-inv _ _ (also-inv _ _ h .1) .1) .0 in
+      record {
+        some = s .entries .some;
+        few = s .entries .few;
+        some-instances = s .origins .some;
+        few-instances = s .origins .few;
+        total = leb-true _ _ (b .0);
+        some-extent = omega (arith, within-inv 1 1048576 _ (c .0) .0);
+        extent = s .extent;
+        displacements = λ i l. omega (arith, s .entries .ends i l);
+        widths = λ i l. let w = width-small (nth ws i) (also-inv _ _ (all-at (entryFitsAt ws ds) (v .etype .entries) f i l) .0) in (omega (arith, w .0), omega (arith, w .1));
+        origins = s .origins .small;
+      }
+
+  pub groups-flags : (t u : Bool) → t ≡ etypeAccepted (v .etype) ws ds → not t ≡ false → u ≡ filetypeAccepted v ws ds ps → not u ≡ false → RecordReady v ws ds ps
+  groups-flags t u a b c d = groups-ready (unflag-true t _ a b) (unflag-true u _ c d)

@@ -3,8 +3,8 @@ use Rattle.laws.proofs.Prelude.{ℕ, _+_, _-_, _*_, _/_, _%_, _≤_, _<_, _≡_
 use Rattle.view.specs.declared.View.{View}
 use Rattle.view.specs.Limits.{widthAllowed, entryDisplacementAllowed}
 use Rattle.view.specs.Types.{paper, entries, widthAt, displacementAt}
-use Rattle.view.specs.Rules.{entryAllowed, entriesAllowed, typeOrdered, instances, origin, viewHolesFit, nextBegins, entryApart, apart, IsBuilt}
-use Rattle.view.specs.Parts.{ordered, holesFit, built, entryEnd, reachOf}
+use Rattle.view.specs.Rules.{entryAllowed, entriesAllowed, typeOrdered, instances, origin, viewHolesFit, IsBuilt}
+use Rattle.view.specs.Parts.{ordered, holesFit, built, entryEnd, reachOf, nextBegins, entryApart, apart}
 use Rattle.view.proofs.Paper.{paper-entries, paper-file-entries, paper-width, paper-displacement, paper-file-width, paper-file-displacement-read, paper-file-displacement, paper-extent, paper-file-extent, paper-instances, paper-origin}
 use Rattle.view.proofs.Accepted.{type-entry, width-small, holes-are}
 use Rattle.view.proofs.Groups.{built-only}

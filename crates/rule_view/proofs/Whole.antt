@@ -1,14 +1,16 @@
 -- The tests on the record make up document 01's rules on the view that it stands for.
 use Rattle.laws.proofs.Prelude.{ℕ, _*_, _≤_, _<_, _≡_, sym, ap, _∙_, Bool, true, false, not, ⊎-elim, arith, mul-le-mul-right, le-of-mul-le-mul-right, eq-zero-or-pos, zero-mul, leb, le-leb, leb-true, also, either, within, iff, also-inv, also-true, within-inv, within-yes, run-below}
 use Rattle.view.specs.declared.View.{View}
-use Rattle.view.specs.Limits.{filetypeEntriesAllowed}
+use Rattle.view.specs.Limits.{filetypeEntriesAllowed, extentAllowed}
 use Rattle.view.specs.Types.{paper, entries}
-use Rattle.view.specs.Rules.{instances}
+use Rattle.view.specs.Rules.{instances, entriesAllowed}
+use Rattle.view.specs.Parts.{clear}
 use Rattle.view.specs.Acceptance.{accepted}
 use Rattle.view.specs.Modes.{allowsWriting}
 use Rattle.view.proofs.Paper.{paper-entries, paper-file-entries}
-use Rattle.view.proofs.Accepted.{rules, rules-accept}
-use Rattle.rule_view.specs.Parts.{etypeAccepted, filetypeAccepted, viewAccepted}
+use Rattle.view.proofs.Accepted.{rules, rules-accept, spaced}
+use Rattle.view.proofs.Clashing.{apart-or-clear}
+use Rattle.rule_view.specs.Parts.{etypeAccepted, filetypeAccepted, shapeApart, viewAccepted}
 use Rattle.rule_view.proofs.Pieces.{etype-paired, filetype-paired, start-same, counts-same, extent-same, file-extent-same, entries-same, order-same}
 use Rattle.rule_view.proofs.Instances.{allowed-reach, apart-same, order-step, reach-allowed, view-built, view-holes-same}
 
@@ -33,6 +35,13 @@ file-counts n k some = iff _ _ there back
         let c = run-below k n 0 0 (omega (arith, b .0)) some in
         let d : 1 ≤ k * n = omega arith in
         also-true (within-yes 1 256 (k * n) d (leb-true _ _ (a .1))) (le-leb _ _ (mul-le-mul-right {m = k} {n = 64} n (b .1)))
+
+-- ---- overlap: tiles in order, or no bytes that clash
+
+overlap-same : (v : View) → 0 < v .numbers .etype .entries → 0 < v .numbers .filetype .instances → extentAllowed (paper v .filetype .extent) ≡ true → entriesAllowed (paper v .filetype) ≡ true → either (shapeApart (v .numbers) (v .widths) (v .displacements) (v .origins)) (clear (paper v)) ≡ clear (paper v)
+overlap-same v some more x a =
+    let n : 0 < entries (paper v .filetype) = rw (paper-file-entries v) (omega (arith, run-below (v .numbers .filetype .instances) (v .numbers .etype .entries) 0 0 more some)) in
+    ap (λ (z : Bool). either z (clear (paper v))) (sym (apart-same v some more)) ∙ apart-or-clear (paper v) (spaced (paper v) x a) n
 
 -- ---- the whole
 
@@ -67,7 +76,7 @@ module _ (mode : ℕ) (v : View) where
         filetype-ordered = order-step v some more (e3 .1) ∙ f5 .0;
         is-built = view-built v some more;
         holes = view-holes-same v some more ∙ f5 .1;
-        overlap = ap (λ (x : Bool). either (not (allowsWriting mode)) x) (apart-same v some more) ∙ c .1;
+        overlap = sym (ap (λ (x : Bool). either (not (allowsWriting mode)) x) (overlap-same v some more (file-extent-same v ∙ f3 .0) (reach-allowed v some more (e3 .0) (f4 .0)))) ∙ c .1;
       })
 
   accepted-record : accepted mode (paper v) ≡ true → viewAccepted mode v ≡ true
@@ -86,7 +95,7 @@ module _ (mode : ℕ) (v : View) where
       (also-true (f .0) (also-true (f .1) (also-true (sym (file-extent-same v) ∙ r .filetype-extent)
       (also-true (allowed-reach v some more e3 (r .filetype-allowed))
       (also-true (sym (order-step v some more o) ∙ r .filetype-ordered) (sym (view-holes-same v some more) ∙ r .holes))))))
-      (sym (ap (λ (x : Bool). either (not (allowsWriting mode)) x) (apart-same v some more)) ∙ r .overlap)))
+      (ap (λ (x : Bool). either (not (allowsWriting mode)) x) (overlap-same v some more (r .filetype-extent) (r .filetype-allowed)) ∙ r .overlap)))
 
   pub held-accepted : viewAccepted mode v ≡ accepted mode (paper v)
   held-accepted = iff _ _ record-accepted accepted-record
@@ -99,6 +108,15 @@ pub no-writing : (w t a : Bool) → t ≡ w → not t ≡ true → true ≡ eith
 unfolding either
 no-writing w t a e h = let q : not w ≡ true = ap not (sym e) ∙ h in rw q
 
-pub writing : (w t a z : Bool) → t ≡ w → not t ≡ false → z ≡ a → z ≡ either (not w) a
-unfolding either
-writing w t a z e h q = let p : not w ≡ false = ap not (sym e) ∙ h in rw p q
+module _ (w t x y : Bool) (e : t ≡ w) (h : not t ≡ false) (z : Bool) (q : z ≡ x) where
+  asked : not w ≡ false
+  asked = ap not (sym e) ∙ h
+
+  -- and there tiles in order pass, and others if no bytes clash
+  pub in-order : z ≡ true → true ≡ either (not w) (either x y)
+  unfolding either
+  in-order a = let p = sym q ∙ a in rw (asked, p)
+
+  pub out-of-order : z ≡ false → (u : Bool) → u ≡ y → u ≡ either (not w) (either x y)
+  unfolding either
+  out-of-order a u b = let p = sym q ∙ a in rw (asked, p) b

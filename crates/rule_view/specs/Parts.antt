@@ -9,7 +9,8 @@ use Rattle.laws.specs.Lists.{nth}
 use Rattle.view.specs.declared.Etype.{Etype}
 use Rattle.view.specs.declared.Numbers.{Numbers}
 use Rattle.view.specs.declared.View.{View}
-use Rattle.view.specs.Parts.{maxEtypeEntries, maxFiletypeEntries, maxInstances, maxExtent, maxDisplacement, ordered, holesFit, EntriesValid, entryEnd, reachOf}
+use Rattle.view.specs.Parts.{maxEtypeEntries, maxFiletypeEntries, maxInstances, maxExtent, maxDisplacement, ordered, holesFit, EntriesValid, entryEnd, reachOf, clear}
+use Rattle.view.specs.Types.{paper}
 use Rattle.view.specs.Modes.{allowsWriting}
 use Rattle.rule_entries.specs.Parts.{apartAt, entryFitsAt}
 use Rattle.rule_instances.specs.Parts.{OriginsValid, originsStep, reachAt}
@@ -38,6 +39,7 @@ filetypeAccepted v ws ds ps =
 
 -- ---- overlap
 
+-- tiles in order, which have no bytes that clash
 unfoldable pub shapeApart : Numbers → List ℕ → List ℕ → List ℕ → Bool
 shapeApart v ws ds ps =
     let n = v .etype .entries in
@@ -60,4 +62,4 @@ viewAccepted mode v =
     also (leb (v .numbers .displacement) maxDisplacement)
     (also (etypeAccepted (v .numbers .etype) (v .widths) (v .displacements))
     (also (filetypeAccepted (v .numbers) (v .widths) (v .displacements) (v .origins))
-    (either (not (allowsWriting mode)) (shapeApart (v .numbers) (v .widths) (v .displacements) (v .origins)))))
+    (either (not (allowsWriting mode)) (either (shapeApart (v .numbers) (v .widths) (v .displacements) (v .origins)) (clear (paper v))))))

@@ -1,5 +1,5 @@
 // The test of a view as its record stands, whatever its numbers: does it keep the limits and rules for a mode?
-// The parts are tested on the record, at a cost that grows with the etype's entries plus the instances, and no list is copied.
+// The parts are tested on the record, at a cost that grows with the etype's entries plus the instances, and no list is copied. Only where a view for writing has tiles that are not in order are its entries compared (`rule_overlap`).
 ghost use mathlib.Core.Bool.{true};
 ghost use mathlib.Core.Path.{_≡_};
 ghost use Rattle.view.specs.Types.{paper};
@@ -34,7 +34,7 @@ fn etype_valid<'a>(e: Etype, widths: &'a PerEntry, displacements: &'a PerEntry) 
     }
     let used = n as usize;
     let all: &[u64] = displacements;
-    rule_entries::never_decrease(&all[..used])
+    sorting::never_decrease(&all[..used])
 }
 
 // Whether a filetype of instances of a valid etype keeps its limits, is ordered, and has holes that fit.
@@ -77,7 +77,7 @@ fn filetype_valid<'a>(
     rule_instances::holes_fit(k, origins, fx, v.etype.extent)
 }
 
-// Whether the entries of a filetype of valid shape are apart, those of the next tile too.
+// Whether the tiles of a filetype of valid shape are in order: each entry ends at or before the next one begins, the last one before the next tile's first. Then no bytes clash.
 fn shape_apart<'a>(
     v: Numbers,
     widths: &'a PerEntry,
@@ -126,5 +126,8 @@ pub fn is_accepted<'a>(
     if !View::allows_writing(mode) {
         return true;
     }
-    shape_apart(v, widths, displacements, origins)
+    if shape_apart(v, widths, displacements, origins) {
+        return true;
+    }
+    rule_overlap::view_clear(v, widths, displacements, origins)
 }

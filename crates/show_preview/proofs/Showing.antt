@@ -19,7 +19,7 @@ module _ (v : Numbers) (ws ds ps : List ℕ) (mode : ℕ) (t : Bool) (e : t ≡ 
   pub tested-origins : OriginsLow v ps
   tested-origins = origins-low (viewWith v ws ds ps) valid
 
-pub first-allowed : (z : ℤ) (o : ℕ) → z ≡ pos o → o < 5 → offsetAllowed z ≡ true
+pub first-allowed : (z : ℤ) (o : ℕ) → z ≡ pos o → o < 6 → offsetAllowed z ≡ true
 unfolding offsetAllowed
 first-allowed z o e l = ap offsetAllowed e ∙ lt-ltb o 4294967296 (omega arith)
 

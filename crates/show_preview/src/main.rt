@@ -5,7 +5,7 @@ use view::PerEntry;
 use view::PerInstance;
 use view::View;
 
-const OFFSETS: u64 = 5;
+const OFFSETS: u64 = 6;
 
 // Where the first offsets of a view begin, and end of file at `size`, on one line.
 fn show_places<'a>(
@@ -80,6 +80,16 @@ fn show_word_view(displacement: i64, ws: &[u64], ds: &[i64], extent: i64, mode: 
     show_view(&[4u64], &[0i64], 4, ws, ds, extent, asked);
 }
 
+// A view from byte 0 on whose etype is a byte, with two bytes in the filetype, for writing.
+fn show_byte_view(ds: &[i64], extent: i64, size: u64) {
+    let asked = Asked {
+        mode: View::MODE_WRITING,
+        displacement: 0,
+        size: size,
+    };
+    show_view(&[1u64], &[0i64], 1, &[1u64, 1], ds, extent, asked);
+}
+
 // A view from byte 0 on that is refused, for reading and writing.
 fn show_refused(ew: &[u64], ed: &[i64], ex: i64, fw: &[u64], fd: &[i64], fx: i64) {
     let asked = Asked {
@@ -104,6 +114,20 @@ fn figures() {
     show_word_view(0, &two, &[0i64, 4], 4, View::MODE_WRITING, 8);
     io::write_all(STDOUT_FILENO, b"P7 (words at 0 and 8 of 4) ");
     show_word_view(0, &two, &[0i64, 8], 4, View::MODE_READING, 8);
+    io::write_all(STDOUT_FILENO, b"P12 (bytes at 0 and 3 of 2) ");
+    show_byte_view(&[0i64, 3], 2, 3);
+}
+
+// Views with bytes that clash: a file byte would belong to two offsets.
+fn clashes() {
+    let word = [4u64];
+    let zero = [0i64];
+    io::write_all(STDOUT_FILENO, b"bytes at 0 and 2 of 2, ");
+    show_byte_view(&[0i64, 2], 2, 3);
+    io::write_all(STDOUT_FILENO, b"a word at 0 of 2, ");
+    show_refused(&word, &zero, 4, &word, &zero, 2);
+    io::write_all(STDOUT_FILENO, b"words at 0, 4, 8 and 12 of 8, ");
+    show_refused(&word, &zero, 4, &[4u64, 4, 4, 4], &[0i64, 4, 8, 12], 8);
 }
 
 // A view for each rule of a set's lists, from 6 on, that no figure above breaks.
@@ -132,5 +156,6 @@ fn other_rules() {
 
 fn main() {
     figures();
+    clashes();
     other_rules();
 }

@@ -188,6 +188,17 @@ fn set_for(mode: u64) {
     show_set(b"set_view, P6", p6, &word, &zero, &words, &places);
 }
 
+// P12: the tiles interlace, no byte is reached twice, and places do not rise. With 2 for 3 the bytes lie F = 2 apart.
+fn set_interlaced() {
+    let ew = [1u64];
+    let ed = [0i64];
+    let fw = [1u64, 1];
+    let p12 = [0i64, 3];
+    try_set(b"set_view, P12", &ew, &ed, 1, &fw, &p12, 2);
+    let two = [0i64, 2];
+    try_set(b"set_view, P12 with 2 for 3", &ew, &ed, 1, &fw, &two, 2);
+}
+
 // 6: the second word of the filetype lies below 0.
 fn set_entry() {
     let ew = [4u64];
@@ -375,6 +386,20 @@ fn write_at() {
     list(b"  file:", &plan);
 }
 
+// P12: offsets 0, 1 and 2 are bytes 0, 3 and 2. The highest byte is that of offset 1; byte 1 belongs to no offset.
+fn write_interlaced() {
+    let opened = Handle::open(Handle::MODE_BOTH);
+    let h = opened.handle;
+    let p12 = [0i64, 3];
+    let set = h.set_view(b"native", 0, &[1u64], &[0i64], 1, &[1u64, 1], &p12, 2);
+    let ready = set.handle;
+    let mut plan = [9u8; 6];
+    let rec = FileRecord::of_size(0);
+    let done = ready.write_at(&mut plan, rec, Offset(0), 3, &[1u8, 2, 3]);
+    show_write(b"write_at, P12", done);
+    list(b"  file:", &plan);
+}
+
 // The same two words, one a call, through the handle and the record that the call before answered.
 fn write() {
     let h = slots(0);
@@ -429,6 +454,7 @@ fn main() {
     set_view();
     set_for(Handle::MODE_WRITING);
     set_for(Handle::MODE_READING);
+    set_interlaced();
     set_entry();
     set_order();
     set_not_whole();
@@ -447,6 +473,7 @@ fn main() {
     read_at(120);
     read();
     write_at();
+    write_interlaced();
     write();
     share();
     forge(4294967296);

@@ -31,7 +31,9 @@ pub fn print_rule(refusal: u64) {
         View::REFUSED_ENTRY => say(b"a width or entry displacement is not allowed"),
         View::REFUSED_ORDER => say(b"displacements decrease"),
         View::REFUSED_HOLE => say(b"a hole is no multiple of the etype's extent"),
-        View::REFUSED_OVERLAP => say(b"entries overlap, and the mode allows writing"),
+        View::REFUSED_OVERLAP => say(
+            b"two data bytes lie a multiple of the filetype's extent apart, and the mode allows writing",
+        ),
         View::REFUSED_MODE => say(
             b"a read in a mode without reading, or a write or reverse lookup in one without writing",
         ),

@@ -2,11 +2,12 @@
 use Rattle.laws.proofs.Prelude.{ℕ, _+_, _-_, _*_, _/_, _%_, _≤_, _<_, _≡_, refl, sym, ap, _∙_, true, not, ⊎-elim, arith, div-add-mod', le-of-mul-le-mul-right, mod-lt, eq-zero-or-pos, zero-mul, mul-mod-left, mul-div-cancel, add-zero, getD, ℤ, pos, negsuc, lit<, leb-true, le-leb, eqb-true, eq-eqb, either, check-inv, check-zero, also-true, also-inv, either-inv, within-inv, not-both, all-at, all-intro, leastFalse, least-false-le, ends-holds, run-below, runs-below}
 use Rattle.view.specs.Limits.{widthAllowed, etypeEntriesAllowed, filetypeEntriesAllowed, entryDisplacementAllowed, extentAllowed, displacementAllowed}
 use Rattle.view.specs.Types.{PaperType, PaperView, entries, widthAt, displacementAt, extentOf, whole}
-use Rattle.view.specs.Rules.{paired, entryAllowed, entriesAllowed, typeOrdered, instances, origin, holeAllowed, viewHolesFit, apart}
-use Rattle.view.specs.Parts.{built, holesFit}
+use Rattle.view.specs.Rules.{paired, entryAllowed, entriesAllowed, typeOrdered, instances, origin, holeAllowed, viewHolesFit}
+use Rattle.view.specs.Parts.{built, holesFit, clear}
 use Rattle.view.specs.Acceptance.{viewRefusal, accepted, Valid}
 use Rattle.view.specs.Modes.{allowsWriting}
 use Rattle.view.proofs.Groups.{built-checks, built-parts, built-groups, group-entry}
+use Rattle.view.proofs.Clashing.{Spaced}
 
 -- ---- the rules one by one
 
@@ -29,7 +30,7 @@ pub record Rules (mode : ℕ) (v : PaperView) : Type 0 where
   pub filetype-ordered : typeOrdered (v .filetype) ≡ true
   pub is-built : built v ≡ true
   pub holes : viewHolesFit v ≡ true
-  pub overlap : either (not (allowsWriting mode)) (apart v) ≡ true
+  pub overlap : either (not (allowsWriting mode)) (clear v) ≡ true
 
 pub refusal-rules : (mode : ℕ) (v : PaperView) → viewRefusal mode v ≡ 0 → Rules mode v
 unfolding viewRefusal
@@ -83,7 +84,7 @@ rules-accept mode v r =
     (let b = built-parts v (r .is-built) in
     check-zero 17 (b .0) (check-zero 18 (b .1) (check-zero 19 (b .2) (check-zero 9 (r .holes) (check-zero 10 (r .overlap) refl))))))))))
 
-reading-only : (v : PaperView) → either (not (allowsWriting 1)) (apart v) ≡ true
+reading-only : (v : PaperView) → either (not (allowsWriting 1)) (clear v) ≡ true
 unfolding either allowsWriting
 reading-only v = refl
 
@@ -112,8 +113,8 @@ pub accepted-valid : (mode : ℕ) (v : PaperView) → accepted mode v ≡ true �
 accepted-valid mode v h = rules-valid mode v (rules mode v h)
 
 -- one that is accepted for writing keeps overlap's too
-pub writing-apart : (mode : ℕ) (v : PaperView) → accepted mode v ≡ true → allowsWriting mode ≡ true → apart v ≡ true
-writing-apart mode v h w = ⊎-elim (λ n. absurd (no n)) (λ a. a) (either-inv _ _ (rules mode v h .overlap))
+pub writing-clear : (mode : ℕ) (v : PaperView) → accepted mode v ≡ true → allowsWriting mode ≡ true → clear v ≡ true
+writing-clear mode v h w = ⊎-elim (λ n. absurd (no n)) (λ a. a) (either-inv _ _ (rules mode v h .overlap))
   where
     no : not (allowsWriting mode) ≡ true → ⊥
     no n = not-both (rw w at n) refl
@@ -150,6 +151,14 @@ width-small w h =
     (λ s. ⊎-elim (λ e. let q = eqb-true w 4 e in (omega arith, omega arith)) (λ e. let q = eqb-true w 8 e in (omega arith, omega arith)) (either-inv _ _ s))
     (either-inv _ _ r))
     (either-inv _ _ h)
+
+-- a filetype that passes checks 5 and 6 has bytes in its tiles and entries
+pub spaced : (v : PaperView) → extentAllowed (v .filetype .extent) ≡ true → entriesAllowed (v .filetype) ≡ true → Spaced v
+unfolding extentOf
+spaced v x a = record {
+  extent = omega (arith, extent-small (v .filetype .extent) x .0);
+  widths = λ i l. omega (arith, width-small (widthAt (v .filetype) i) (type-entry (v .filetype) a i l .0) .0);
+}
 
 pub record Facts (v : PaperView) : Type 0 where
   pub start : whole (v .displacement) ≤ 1099511627776

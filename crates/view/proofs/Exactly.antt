@@ -1,12 +1,14 @@
--- A view is accepted exactly if it keeps the limits and rules as document 01 words them: the chain of checks says neither more nor less.
--- Rests on the rules one by one, and on the two theorems about the groups (Accepted.antt).
+-- A view is accepted exactly if it keeps the limits and rules as the papers word them: the chain of checks says neither more nor less.
+-- Rests on the rules one by one, and on the theorems about the groups and about overlap (Accepted.antt, Clashing.antt).
 use Rattle.laws.proofs.Prelude.{ℕ, _<_, _≡_, refl, Bool, true, false, not, arith, eq-eqb, either, check-zero, also-true, also-inv, within-inv}
 use Rattle.view.specs.Limits.{etypeEntriesAllowed, filetypeEntriesAllowed}
 use Rattle.view.specs.Types.{PaperView, entries}
-use Rattle.view.specs.Rules.{countsAllowed, apart}
+use Rattle.view.specs.Rules.{countsAllowed}
+use Rattle.view.specs.Parts.{clear}
 use Rattle.view.specs.Acceptance.{IsAccepted, viewRefusal, accepted}
 use Rattle.view.specs.Modes.{allowsWriting}
-use Rattle.view.proofs.Accepted.{rules, writing-apart}
+use Rattle.view.proofs.Accepted.{rules, writing-clear, spaced}
+use Rattle.view.proofs.Clashing.{clear-is, clear-only}
 use Rattle.view.proofs.Groups.{built-is, built-only, built-parts}
 
 pub accepted-is : (mode : ℕ) (v : PaperView) → accepted mode v ≡ true → IsAccepted mode v
@@ -20,7 +22,7 @@ accepted-is mode v h =
       ordered = also-true (r .etype-ordered) (r .filetype-ordered);
       groups = built-is v (r .is-built);
       holes = r .holes;
-      overlap = writing-apart mode v h;
+      overlap = λ w. clear-is v (writing-clear mode v h w);
     }
 
 -- overlap is asked where the mode allows writing, and there it holds
@@ -41,6 +43,7 @@ unfolding accepted viewRefusal
 accepted-only mode v a =
     let c = counts-some v (a .counts) in
     let b = built-parts v (built-only v (c .0) (a .groups) (c .1)) in
+    let s = spaced v (also-inv _ _ (a .extents) .1) (also-inv _ _ (a .entries) .1) in
     eq-eqb _ 0
     (check-zero 3 (a .displacement) (check-zero 4 (a .counts) (check-zero 5 (a .extents) (check-zero 6 (a .entries) (check-zero 7 (a .ordered)
-    (check-zero 17 (b .0) (check-zero 18 (b .1) (check-zero 19 (b .2) (check-zero 9 (a .holes) (check-zero 10 (overlap-tested (allowsWriting mode) (apart v) (a .overlap)) refl))))))))))
+    (check-zero 17 (b .0) (check-zero 18 (b .1) (check-zero 19 (b .2) (check-zero 9 (a .holes) (check-zero 10 (overlap-tested (allowsWriting mode) (clear v) (λ w. clear-only v s (a .overlap w))) refl))))))))))

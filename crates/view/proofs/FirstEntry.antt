@@ -1,9 +1,9 @@
--- What a refused set names is what order 1 says: for each refusal number the definition that computes the entry has the property, and no other entry has it.
+-- What a refused set names is what order 1 says: for each refusal number but 10, which is in Clashing.antt, the definition that computes the entry has the property, and no other entry has it.
 use Rattle.laws.proofs.Prelude.{ℕ, _+_, _-_, _*_, _≤_, _<_, _≡_, _≢_, refl, sym, ap, _∙_, subst, Bool, true, false, _⊎_, inl, inr, ⊎-elim, arith, cond, le-of-mul-le-mul-right, mul-le-mul-right, eqb, leb, ltb, leb-true, leb-false, eqb-true, eq-eqb, ne-eqb, le-leb, lt-leb, lt-ltb, le-ltb, also, also-true, also-inv, also-first, also-false, all, leastFalse, IsFirst, not-both, eq-or-ne, lt-or-le, all-at, all-intro, all-below, all-fails, all-reaches, ends-first, least-false-le, least-false-keeps, least-false-breaks, least-false-is, first-one, first-false, first-found, not-false-true, not-true-false, times-more}
 use Rattle.view.specs.Types.{PaperType, PaperView, entries, widthAt, displacementAt, extentOf}
-use Rattle.view.specs.Rules.{entryAllowed, entriesAllowed, typeOrdered, wholeGroups, instances, holeAllowed, viewHolesFit, nextBegins, entryApart, apart}
-use Rattle.view.specs.Named.{BreaksLimits, BreaksOrder, Differs, OriginBelow, BreaksHoles, BreaksOverlap, BuiltBefore, FirstDiffering, FirstBelow}
-use Rattle.view.specs.Parts.{entryMatches, groupMatches, originAllowed, groupBuilt, decidingGroup, limitsEntry, orderEntry, differingEntry, belowEntry, holeNames, holeEntry, laterEntry, overlapEntry}
+use Rattle.view.specs.Rules.{entryAllowed, entriesAllowed, typeOrdered, wholeGroups, instances, holeAllowed, viewHolesFit}
+use Rattle.view.specs.Named.{BreaksLimits, BreaksOrder, Differs, OriginBelow, BreaksHoles, BuiltBefore, FirstDiffering, FirstBelow}
+use Rattle.view.specs.Parts.{entryMatches, groupMatches, originAllowed, groupBuilt, decidingGroup, limitsEntry, orderEntry, differingEntry, belowEntry, holeNames, holeEntry}
 
 -- ---- 6
 
@@ -201,73 +201,3 @@ module _ (v : PaperView) (some : 0 < entries (v .etype)) (more : 0 < instances v
 
   pub holes-only : (i : ℕ) → IsFirst (BreaksHoles v) (entries (v .filetype)) i → i ≡ holeEntry v
   holes-only i f = first-one (BreaksHoles v) (entries (v .filetype)) i (holeEntry v) f (holes-is (holes-fail i (f .here)))
-
--- ---- 10
-
-module _ (v : PaperView) where
-  next-inner : (i : ℕ) → i + 1 < entries (v .filetype) → nextBegins v i ≡ displacementAt (v .filetype) (i + 1)
-  unfolding nextBegins
-  next-inner i l = rw (lt-ltb (i + 1) (entries (v .filetype)) l)
-
-  next-last : (i : ℕ) → entries (v .filetype) ≤ i + 1 → nextBegins v i ≡ displacementAt (v .filetype) 0 + extentOf (v .filetype)
-  unfolding nextBegins
-  next-last i l = rw (le-ltb (i + 1) (entries (v .filetype)) l)
-
-  -- entry i reaches past the next beginning, or it does not
-  reaches : (i : ℕ) → entryApart v i ≡ false → nextBegins v i < displacementAt (v .filetype) i + widthAt (v .filetype) i
-  unfolding entryApart
-  reaches i h = leb-false _ _ h
-
-  ends-before : (i : ℕ) → entryApart v i ≡ true → displacementAt (v .filetype) i + widthAt (v .filetype) i ≤ nextBegins v i
-  unfolding entryApart
-  ends-before i h = leb-true _ _ h
-
-  runs-over : (i : ℕ) → nextBegins v i < displacementAt (v .filetype) i + widthAt (v .filetype) i → entryApart v i ≡ false
-  unfolding entryApart
-  runs-over i l = lt-leb _ _ l
-
-  -- entry a is the first that does
-  module _ (a : ℕ) (f : IsFirst (λ i. entryApart v i ≡ false) (entries (v .filetype)) a) where
-    -- no pair before it overlaps
-    pair-apart : (k : ℕ) → 0 < k → k ≤ a → k < entries (v .filetype) → displacementAt (v .filetype) k < displacementAt (v .filetype) (k - 1) + widthAt (v .filetype) (k - 1) → ⊥
-    pair-apart k p b m d =
-        let q : k - 1 + 1 ≡ k = omega arith in
-        let n : nextBegins v (k - 1) ≡ displacementAt (v .filetype) k = next-inner (k - 1) (omega arith) ∙ ap (displacementAt (v .filetype)) q in
-        f .earlier (k - 1) (omega arith) (runs-over (k - 1) (omega (arith, n, d)))
-
-    overlap-inner : a + 1 < entries (v .filetype) → IsFirst (BreaksOverlap v) (entries (v .filetype)) (a + 1)
-    overlap-inner l =
-        let q : a + 1 - 1 ≡ a = omega arith in
-        record {
-          below = l;
-          here = inl (omega arith, rw q (omega (arith, reaches a (f .here), next-inner a l)));
-          earlier = λ k b d. ⊎-elim (λ x. pair-apart k (x .0) (omega arith) (omega arith) (x .1)) (λ x. omega (arith, x .0)) d;
-        }
-
-    overlap-last : entries (v .filetype) ≤ a + 1 → IsFirst (BreaksOverlap v) (entries (v .filetype)) a
-    overlap-last l = record {
-      below = f .below;
-      here = inr (omega (arith, f .below), omega (arith, reaches a (f .here), next-last a l));
-      earlier = λ k b d. ⊎-elim (λ x. pair-apart k (x .0) (omega arith) (omega (arith, f .below)) (x .1)) (λ x. omega (arith, x .0, f .below)) d;
-    }
-
-    overlap-named : IsFirst (BreaksOverlap v) (entries (v .filetype)) (laterEntry a (entries (v .filetype)))
-    unfolding laterEntry
-    overlap-named = ⊎-elim (λ l. rw (lt-ltb (a + 1) (entries (v .filetype)) l) (overlap-inner l)) (λ l. rw (le-ltb (a + 1) (entries (v .filetype)) l) (overlap-last l)) (lt-or-le (a + 1) (entries (v .filetype)))
-
-  pub overlap-is : apart v ≡ false → IsFirst (BreaksOverlap v) (entries (v .filetype)) (overlapEntry v)
-  unfolding overlapEntry apart
-  overlap-is h = overlap-named _ (first-false (entryApart v) (entries (v .filetype)) (all-below (entryApart v) (entries (v .filetype)) h))
-
-  overlap-fails : (i : ℕ) → i < entries (v .filetype) → BreaksOverlap v i → apart v ≡ false
-  unfolding apart
-  overlap-fails i l b = ⊎-elim pair (λ x. all-fails (entryApart v) (entries (v .filetype)) i l (runs-over i (omega (arith, x .1, next-last i (omega (arith, x .0)))))) b
-    where
-      pair : (0 < i) × (displacementAt (v .filetype) i < displacementAt (v .filetype) (i - 1) + widthAt (v .filetype) (i - 1)) → all (entryApart v) (entries (v .filetype)) ≡ false
-      pair x =
-          let q : i - 1 + 1 ≡ i = omega (arith, x .0) in
-          let n : nextBegins v (i - 1) ≡ displacementAt (v .filetype) i = next-inner (i - 1) (omega (arith, x .0)) ∙ ap (displacementAt (v .filetype)) q in
-          all-fails (entryApart v) (entries (v .filetype)) (i - 1) (omega arith) (runs-over (i - 1) (omega (arith, n, x .1)))
-
-  pub overlap-only : (i : ℕ) → IsFirst (BreaksOverlap v) (entries (v .filetype)) i → i ≡ overlapEntry v
-  overlap-only i f = first-one (BreaksOverlap v) (entries (v .filetype)) i (overlapEntry v) f (overlap-is (overlap-fails i (f .below) (f .here)))

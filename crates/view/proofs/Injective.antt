@@ -1,146 +1,206 @@
--- The law of demand 3: in a view whose entries are apart, different pairs of offset and data byte lie at different bytes.
--- Entry number q of the whole view, over all tiles, ends at or before entry q + 1 begins; data byte j of offset x lies in entry x·n + e.
--- Later landings use `distinct` and `narrow` alone: a new overlap rule proves these two again.
-use Rattle.laws.proofs.Prelude.{ℕ, zero, suc, _+_, _-_, _*_, _/_, _%_, _≤_, _<_, _≡_, sym, ap, _∙_, true, ⊎-elim, arith, div-add-mod', mod-lt, add-mul, mul-assoc, add-zero, add-suc, zero-div, zero-mod, div-self, mod-self, add-one, leb-true, lt-ltb, le-ltb, lt-or-le, all-at, run-div, run-mod, run-below, next-in, next-over, times-more}
+-- The laws on which demand 3 rests: in a view whose filetype has no bytes that clash, different pairs of offset and data byte lie at different bytes, and no entry is wider than F.
+-- Data byte j of offset x is a byte of the filetype in tile x div K; two that lie at one byte of the file lie a multiple of F apart in the filetype.
+-- What stands above uses `distinct` and `narrow` alone: a new overlap rule proves these two again.
+use Rattle.laws.proofs.Prelude.{ℕ, _+_, _-_, _*_, _/_, _%_, _≤_, _<_, _≡_, _≢_, refl, sym, ap, _∙_, true, _⊎_, inl, inr, ⊎-elim, arith, div-add-mod', mod-lt, add-mul, mul-le-mul, mul-le-mul-right, times-more, one-mul, lt-or-le, eq-or-ne, run-div, run-mod, run-below, runs-below}
 use Rattle.view.specs.Types.{PaperView, entries, widthAt, displacementAt, extentOf, whole}
-use Rattle.view.specs.Rules.{instances, apart, entryApart, nextBegins}
-use Rattle.view.specs.Acceptance.{accepted}
+use Rattle.view.specs.Rules.{instances, origin, DifferByMultiple, Clash, NoClash}
+use Rattle.view.specs.Acceptance.{accepted, Valid}
 use Rattle.view.specs.Modes.{allowsWriting}
 use Rattle.view.specs.Places.{place, dataSize, packedBefore, entryOf, dataAt, byteOf}
+use Rattle.view.specs.Owners.{Belongs}
+use Rattle.view.specs.Overlap.{Shared, ExactRule}
 use Rattle.view.specs.Parts.{Distinct, Narrow}
-use Rattle.view.proofs.Accepted.{Facts, facts, accepted-valid, writing-apart, instances-some}
-use Rattle.view.proofs.Packing.{entry-below, entry-ends, entry-begins}
+use Rattle.view.proofs.Clashing.{clear-is, in-order-clear}
+use Rattle.view.proofs.Accepted.{Facts, facts, accepted-valid, writing-clear, instances-some, instances-few}
+use Rattle.view.proofs.Packing.{entry-below, entry-ends, entry-begins, entry-run, data-run, packed-part}
 
--- where entry q of the view begins: entry q mod N of tile q div N
-entryPlace : PaperView → ℕ → ℕ
-entryPlace v q = whole (v .displacement) + q / entries (v .filetype) * extentOf (v .filetype) + displacementAt (v .filetype) (q % entries (v .filetype))
+-- ---- data byte j of offset x as a byte of the filetype
 
-entryWidth : PaperView → ℕ → ℕ
-entryWidth v q = widthAt (v .filetype) (q % entries (v .filetype))
+module _ (v : PaperView) (f : Facts v) (x j : ℕ) (l : j < dataSize v) where
+  -- its entry, and its index in the entry
+  inEntry : ℕ
+  inEntry = x % instances v * entries (v .etype) + entryOf (v .etype) j
 
-module _ (v : PaperView) (a : apart v ≡ true) (some : 0 < entries (v .filetype)) where
-  entry-apart : (i : ℕ) → i < entries (v .filetype) → displacementAt (v .filetype) i + widthAt (v .filetype) i ≤ nextBegins v i
-  unfolding apart entryApart
-  entry-apart i l = leb-true _ _ (all-at (entryApart v) (entries (v .filetype)) a i l)
+  inByte : ℕ
+  inByte = j - packedBefore (v .etype) (entryOf (v .etype) j)
 
-  -- an entry ends at or before the next one begins
-  entry-next : (q : ℕ) → entryPlace v q + entryWidth v q ≤ entryPlace v (q + 1)
-  unfolding entryPlace entryWidth nextBegins
-  entry-next q = ⊎-elim inside over (lt-or-le (q % entries (v .filetype) + 1) (entries (v .filetype)))
-    where
-      within : q % entries (v .filetype) < entries (v .filetype)
-      within = mod-lt q {m = entries (v .filetype)} some
+  of-etype : entryOf (v .etype) j < entries (v .etype)
+  unfolding dataSize
+  of-etype = entry-below (v .etype) j l
 
-      inside : q % entries (v .filetype) + 1 < entries (v .filetype) → entryPlace v q + entryWidth v q ≤ entryPlace v (q + 1)
-      inside h =
-          let r = next-in (entries (v .filetype)) q h in
-          let b = rw (lt-ltb (q % entries (v .filetype) + 1) (entries (v .filetype)) h) at (entry-apart (q % entries (v .filetype)) within) in
-          rw (r .0, r .1) (omega arith)
+  of-group : x % instances v < instances v
+  of-group = mod-lt x {m = instances v} (instances-some v f)
 
-      over : entries (v .filetype) ≤ q % entries (v .filetype) + 1 → entryPlace v q + entryWidth v q ≤ entryPlace v (q + 1)
-      over h =
-          let e : q % entries (v .filetype) + 1 ≡ entries (v .filetype) = omega (arith, within) in
-          let r = next-over (entries (v .filetype)) q some e in
-          let b = rw (le-ltb (q % entries (v .filetype) + 1) (entries (v .filetype)) h) at (entry-apart (q % entries (v .filetype)) within) in
-          rw (r .0, r .1, times-more (q / entries (v .filetype)) (extentOf (v .filetype))) (omega arith)
+  is-byte : (inEntry < entries (v .filetype)) × (inByte < widthAt (v .filetype) inEntry)
+  unfolding inEntry inByte dataSize
+  is-byte = (
+    omega (arith, run-below (instances v) (entries (v .etype)) (x % instances v) (entryOf (v .etype) j) of-group of-etype, f .groups),
+    omega (arith, f .group-width (x % instances v) (entryOf (v .etype) j) of-group of-etype, entry-ends (v .etype) j l, entry-begins (v .etype) j l),
+  )
 
-  -- and before any later one
-  entry-after : (q d : ℕ) → entryPlace v q + entryWidth v q ≤ entryPlace v (q + 1 + d)
-  entry-after q zero = rw (add-zero (q + 1)) (entry-next q)
-  entry-after q (suc d) = rw (add-suc (q + 1) d, sym (add-one (q + 1 + d))) (omega (arith, entry-after q d, entry-next (q + 1 + d)))
+  lies-at : byteOf v x j ≡ whole (v .displacement) + x / instances v * extentOf (v .filetype) + (displacementAt (v .filetype) inEntry + inByte)
+  unfolding byteOf place dataAt inEntry inByte
+  lies-at = omega (arith, f .group-displacement (x % instances v) (entryOf (v .etype) j) of-group of-etype)
 
-  entry-later : (q r : ℕ) → q < r → entryPlace v q + entryWidth v q ≤ entryPlace v r
-  entry-later q r l = let e : q + 1 + (r - (q + 1)) ≡ r = omega arith in rw (← e) (entry-after q (r - (q + 1)))
+  -- the group and the etype's entry, back from its entry
+  group-is : inEntry / entries (v .etype) ≡ x % instances v
+  unfolding inEntry
+  group-is = run-div (entries (v .etype)) (x % instances v) (entryOf (v .etype) j) of-etype
 
--- entry e of the etype at offset x is entry x·n + e of the view
-module _ (v : PaperView) (f : Facts v) (x e : ℕ) (le : e < entries (v .etype)) where
-  number : x * entries (v .etype) + e ≡ x / instances v * entries (v .filetype) + (x % instances v * entries (v .etype) + e)
-  number =
-      let d : x / instances v * instances v + x % instances v ≡ x = div-add-mod' x (instances v) in
-      let m : x * entries (v .etype) ≡ x / instances v * instances v * entries (v .etype) + x % instances v * entries (v .etype) = ap (λ (z : ℕ). z * entries (v .etype)) (sym d) ∙ add-mul (x / instances v * instances v) (x % instances v) (entries (v .etype)) in
-      let s : x / instances v * instances v * entries (v .etype) ≡ x / instances v * entries (v .filetype) = mul-assoc (x / instances v) (instances v) (entries (v .etype)) ∙ ap (λ (z : ℕ). x / instances v * z) (f .groups) in
-      omega arith
+  entry-is : inEntry % entries (v .etype) ≡ entryOf (v .etype) j
+  unfolding inEntry
+  entry-is = run-mod (entries (v .etype)) (x % instances v) (entryOf (v .etype) j) of-etype
 
-  inner : x % instances v < instances v
-  inner = mod-lt x {m = instances v} (instances-some v f)
+-- ---- different pairs, different bytes
 
-  below : x % instances v * entries (v .etype) + e < entries (v .filetype)
-  below = omega (arith, run-below (instances v) (entries (v .etype)) (x % instances v) e inner le, f .groups)
+-- s tiles and p, and t tiles and q, are one place only if p and q differ by a multiple of f
+tiles-differ : (f s t p q : ℕ) → s * f + p ≡ t * f + q → DifferByMultiple f p q
+tiles-differ f s t p q e =
+    ⊎-elim
+    (λ h. let d : t - s + s ≡ t = omega arith in record { times = t - s; differ = inl (omega (arith, add-mul (t - s) s f, ap (λ (z : ℕ). z * f) d)) })
+    (λ h. let d : s - t + t ≡ s = omega arith in record { times = s - t; differ = inr (omega (arith, add-mul (s - t) t f, ap (λ (z : ℕ). z * f) d)) })
+    (lt-or-le s t)
 
-  entry-tile : (x * entries (v .etype) + e) / entries (v .filetype) ≡ x / instances v
-  entry-tile = rw number (run-div (entries (v .filetype)) (x / instances v) (x % instances v * entries (v .etype) + e) below)
+same-tile : (f s t : ℕ) → 0 < f → s * f ≡ t * f → s ≡ t
+same-tile f s t p e =
+    ⊎-elim (λ h. absurd (omega (arith, mul-le-mul-right {m = s + 1} {n = t} f (omega arith), times-more s f)))
+    (λ h. ⊎-elim (λ g. absurd (omega (arith, mul-le-mul-right {m = t + 1} {n = s} f (omega arith), times-more t f))) (λ g. omega arith) (lt-or-le t s))
+    (lt-or-le s t)
 
-  entry-in-tile : (x * entries (v .etype) + e) % entries (v .filetype) ≡ x % instances v * entries (v .etype) + e
-  entry-in-tile = rw number (run-mod (entries (v .filetype)) (x / instances v) (x % instances v * entries (v .etype) + e) below)
+module _ (v : PaperView) (f : Facts v) (n : NoClash v) where
+  module _ (x y j k : ℕ) (lj : j < dataSize v) (lk : k < dataSize v) (e : byteOf v x j ≡ byteOf v y k) where
+    places-differ : DifferByMultiple (extentOf (v .filetype)) (displacementAt (v .filetype) (inEntry v f x j lj) + inByte v f x j lj) (displacementAt (v .filetype) (inEntry v f y k lk) + inByte v f y k lk)
+    places-differ = tiles-differ (extentOf (v .filetype)) (x / instances v) (y / instances v) _ _ (omega (arith, e, lies-at v f x j lj, lies-at v f y k lk))
 
-  entry-place : place v x + displacementAt (v .etype) e ≡ entryPlace v (x * entries (v .etype) + e)
-  unfolding place entryPlace
-  entry-place = rw (entry-tile, entry-in-tile, f .group-displacement (x % instances v) e inner le) (omega arith)
+    same-byte : (inEntry v f x j lj ≡ inEntry v f y k lk) × (inByte v f x j lj ≡ inByte v f y k lk)
+    same-byte =
+        ⊎-elim
+        (λ p. ⊎-elim (λ q. (p, q)) (λ q. absurd (clash (λ _. q))) (eq-or-ne (inByte v f x j lj) (inByte v f y k lk)))
+        (λ p. absurd (clash (λ z _. p z)))
+        (eq-or-ne (inEntry v f x j lj) (inEntry v f y k lk))
+      where
+        clash : (inEntry v f x j lj ≡ inEntry v f y k lk → inByte v f x j lj ≡ inByte v f y k lk → ⊥) → ⊥
+        clash d = n .never (inEntry v f x j lj) (inByte v f x j lj) (inEntry v f y k lk) (inByte v f y k lk) (record { first = is-byte v f x j lj; second = is-byte v f y k lk; different = d; places = places-differ })
 
-  entry-width : widthAt (v .etype) e ≡ entryWidth v (x * entries (v .etype) + e)
-  unfolding entryWidth
-  entry-width = rw entry-in-tile (sym (f .group-width (x % instances v) e inner le))
+    same-offset : x ≡ y
+    same-offset =
+        let d = ap (displacementAt (v .filetype)) (same-byte .0) in
+        let t : x / instances v ≡ y / instances v = same-tile (extentOf (v .filetype)) (x / instances v) (y / instances v) (omega (arith, f .file-extent .0)) (omega (arith, e, d, same-byte .1, lies-at v f x j lj, lies-at v f y k lk)) in
+        let g : x % instances v ≡ y % instances v = sym (group-is v f x j lj) ∙ ap (λ (z : ℕ). z / entries (v .etype)) (same-byte .0) ∙ group-is v f y k lk in
+        let m : x / instances v * instances v ≡ y / instances v * instances v = ap (λ (z : ℕ). z * instances v) t in
+        omega (arith, g, m, div-add-mod' x (instances v), div-add-mod' y (instances v))
 
-module _ (v : PaperView) (f : Facts v) (a : apart v ≡ true) where
-  -- the number of the entry in which data byte j of offset x lies
-  entryNumber : ℕ → ℕ → ℕ
-  entryNumber x j = x * entries (v .etype) + entryOf (v .etype) j
+    same-index : j ≡ k
+    unfolding inByte dataSize
+    same-index =
+        let g : entryOf (v .etype) j ≡ entryOf (v .etype) k = sym (entry-is v f x j lj) ∙ ap (λ (z : ℕ). z % entries (v .etype)) (same-byte .0) ∙ entry-is v f y k lk in
+        omega (arith, same-byte .1, ap (packedBefore (v .etype)) g, entry-begins (v .etype) j lj, entry-begins (v .etype) k lk)
 
-  byte-split : (x j : ℕ) → j < dataSize v → (entryPlace v (entryNumber x j) + (j - packedBefore (v .etype) (entryOf (v .etype) j)) ≡ byteOf v x j) × (byteOf v x j < entryPlace v (entryNumber x j) + entryWidth v (entryNumber x j))
-  unfolding byteOf dataAt dataSize entryNumber
-  byte-split x j l =
-      let b = entry-below (v .etype) j l in
-      let p = entry-place v f x (entryOf (v .etype) j) b in
-      let w = entry-width v f x (entryOf (v .etype) j) b in
-      let h = entry-ends (v .etype) j l in
-      let g = entry-begins (v .etype) j l in
-      (omega arith, omega arith)
+  pub unclashing-distinct : Distinct v
+  unclashing-distinct = record { same = λ x y j k lj lk e. (same-offset x y j k lj lk e, same-index x y j k lj lk e) }
 
-  -- a byte of an earlier entry lies before a byte of a later one
-  byte-rises : (x y j k : ℕ) → j < dataSize v → k < dataSize v → entryNumber x j < entryNumber y k → byteOf v x j < byteOf v y k
-  byte-rises x y j k lj lk h = omega (arith, byte-split x j lj .1, byte-split y k lk .0, entry-later v a (f .file-some) (entryNumber x j) (entryNumber y k) h)
-
-  same-entry : (x y j k : ℕ) → j < dataSize v → k < dataSize v → byteOf v x j ≡ byteOf v y k → entryNumber x j ≡ entryNumber y k
-  same-entry x y j k lj lk e =
-      ⊎-elim (λ h. absurd (omega (arith, byte-rises x y j k lj lk h)))
-      (λ h. ⊎-elim (λ g. absurd (omega (arith, byte-rises y x k j lk lj g))) (λ g. omega arith) (lt-or-le (entryNumber y k) (entryNumber x j)))
-      (lt-or-le (entryNumber x j) (entryNumber y k))
-
-  same-pair : (x y j k : ℕ) → j < dataSize v → k < dataSize v → byteOf v x j ≡ byteOf v y k → (x ≡ y) × (j ≡ k)
-  unfolding dataSize entryNumber
-  same-pair x y j k lj lk e =
-      let q = same-entry x y j k lj lk e in
-      let bj = entry-below (v .etype) j lj in
-      let bk = entry-below (v .etype) k lk in
-      let dx : x ≡ y = sym (run-div (entries (v .etype)) x (entryOf (v .etype) j) bj) ∙ ap (λ (z : ℕ). z / entries (v .etype)) q ∙ run-div (entries (v .etype)) y (entryOf (v .etype) k) bk in
-      let de : entryOf (v .etype) j ≡ entryOf (v .etype) k = sym (run-mod (entries (v .etype)) x (entryOf (v .etype) j) bj) ∙ ap (λ (z : ℕ). z % entries (v .etype)) q ∙ run-mod (entries (v .etype)) y (entryOf (v .etype) k) bk in
-      let pb : packedBefore (v .etype) (entryOf (v .etype) j) ≡ packedBefore (v .etype) (entryOf (v .etype) k) = ap (packedBefore (v .etype)) de in
-      let ep : entryPlace v (x * entries (v .etype) + entryOf (v .etype) j) ≡ entryPlace v (y * entries (v .etype) + entryOf (v .etype) k) = ap (entryPlace v) q in
-      (dx, omega (arith, byte-split x j lj .0, byte-split y k lk .0, entry-begins (v .etype) j lj, entry-begins (v .etype) k lk))
-
-  pub apart-distinct : Distinct v
-  apart-distinct = record { same = same-pair }
-
-  -- an entry of the first tile ends before the same entry of the next begins
+  -- bytes 0 and F of an entry wider than F clash
   entry-fits : (i : ℕ) → i < entries (v .etype) → widthAt (v .etype) i ≤ extentOf (v .filetype)
-  unfolding place
   entry-fits i l =
-      let h : 0 * entries (v .etype) + i < instances v * entries (v .etype) + i = omega (arith, f .groups, f .file-some) in
-      let e = entry-later v a (f .file-some) (0 * entries (v .etype) + i) (instances v * entries (v .etype) + i) h in
-      let w = entry-width v f 0 i l in
-      let k = instances-some v f in
-      let p = rw (zero-div (instances v), zero-mod (instances v)) at (entry-place v f 0 i l) in
-      let q = rw (div-self k, mod-self (instances v)) at (entry-place v f (instances v) i l) in
-      omega arith
+      let s = f .group-width 0 i (instances-some v f) l in
+      let b = run-below (instances v) (entries (v .etype)) 0 i (instances-some v f) l in
+      ⊎-elim
+      (λ h. absurd (n .never (0 * entries (v .etype) + i) (extentOf (v .filetype)) (0 * entries (v .etype) + i) 0 (record {
+        first = (omega (arith, b, f .groups), omega (arith, s));
+        second = (omega (arith, b, f .groups), omega (arith, s));
+        different = λ _ z. omega (arith, z, f .file-extent .0);
+        places = record { times = 1; differ = inl (omega (arith, one-mul (extentOf (v .filetype)))) };
+      })))
+      (λ h. h)
+      (lt-or-le (extentOf (v .filetype)) (widthAt (v .etype) i))
 
-  pub apart-narrow : Narrow v
-  apart-narrow = record { width = entry-fits }
+  pub unclashing-narrow : Narrow v
+  unclashing-narrow = record { width = entry-fits }
 
 -- ---- the two laws, of a view that is accepted for writing
 
 module _ (mode : ℕ) (v : PaperView) (h : accepted mode v ≡ true) (w : allowsWriting mode ≡ true) where
   pub distinct : Distinct v
-  distinct = apart-distinct v (facts v (accepted-valid mode v h)) (writing-apart mode v h w)
+  distinct = unclashing-distinct v (facts v (accepted-valid mode v h)) (clear-is v (writing-clear mode v h w))
 
   pub narrow : Narrow v
-  narrow = apart-narrow v (facts v (accepted-valid mode v h)) (writing-apart mode v h w)
+  narrow = unclashing-narrow v (facts v (accepted-valid mode v h)) (clear-is v (writing-clear mode v h w))
+
+-- ---- the rule is exact
+
+-- byte a of entry i of the filetype, in tile t, as the data byte of a pair
+module _ (v : PaperView) (f : Facts v) (t i a : ℕ) (li : i < entries (v .filetype)) (la : a < widthAt (v .filetype) i) where
+  offsetAt : ℕ
+  offsetAt = t * instances v + i / entries (v .etype)
+
+  indexAt : ℕ
+  indexAt = packedBefore (v .etype) (i % entries (v .etype)) + a
+
+  at-group : i / entries (v .etype) < instances v
+  at-group = runs-below (instances v) (entries (v .etype)) i (f .some) (omega (arith, f .groups))
+
+  at-entry : i % entries (v .etype) < entries (v .etype)
+  at-entry = mod-lt i {m = entries (v .etype)} (f .some)
+
+  at-number : i / entries (v .etype) * entries (v .etype) + i % entries (v .etype) ≡ i
+  at-number = div-add-mod' i (entries (v .etype))
+
+  at-inside : a < widthAt (v .etype) (i % entries (v .etype))
+  at-inside = omega (arith, f .group-width (i / entries (v .etype)) (i % entries (v .etype)) at-group at-entry, ap (widthAt (v .filetype)) at-number)
+
+  at-lies : byteOf v offsetAt indexAt ≡ whole (v .displacement) + (t * extentOf (v .filetype) + (displacementAt (v .filetype) i + a))
+  unfolding byteOf place offsetAt indexAt
+  at-lies =
+      rw (run-div (instances v) t (i / entries (v .etype)) at-group, run-mod (instances v) t (i / entries (v .etype)) at-group, data-run (v .etype) (i % entries (v .etype)) a at-entry at-inside)
+      (omega (arith, f .group-displacement (i / entries (v .etype)) (i % entries (v .etype)) at-group at-entry, ap (displacementAt (v .filetype)) at-number))
+
+  -- within 2^20 tiles its offset is below 2^32
+  at-belongs : t ≤ 1048576 → Belongs v (whole (v .displacement) + (t * extentOf (v .filetype) + (displacementAt (v .filetype) i + a))) offsetAt indexAt
+  unfolding offsetAt indexAt dataSize
+  at-belongs h = record {
+    offset = omega (arith, at-group, instances-few v f, mul-le-mul {n₁ = t} {m₁ = instances v} {n₂ = 1048576} {m₂ = 64} h (instances-few v f));
+    index = omega (arith, at-inside, packed-part (v .etype) (i % entries (v .etype)) (entries (v .etype)) at-entry);
+    lies = at-lies;
+  }
+
+-- different bytes are bytes of different pairs
+module _ (v : PaperView) (f : Facts v) (s t i a k b : ℕ) (li : i < entries (v .filetype)) (la : a < widthAt (v .filetype) i) (lk : k < entries (v .filetype)) (lb : b < widthAt (v .filetype) k) where
+  pairs-differ : (i ≡ k → a ≡ b → ⊥) → offsetAt v f s i a li la ≡ offsetAt v f t k b lk lb → indexAt v f s i a li la ≡ indexAt v f t k b lk lb → ⊥
+  unfolding offsetAt indexAt
+  pairs-differ d p q =
+      let gi = at-group v f s i a li la in
+      let gk = at-group v f t k b lk lb in
+      let g : i / entries (v .etype) ≡ k / entries (v .etype) = sym (run-mod (instances v) s (i / entries (v .etype)) gi) ∙ ap (λ (z : ℕ). z % instances v) p ∙ run-mod (instances v) t (k / entries (v .etype)) gk in
+      let e : i % entries (v .etype) ≡ k % entries (v .etype) = sym (entry-run (v .etype) (i % entries (v .etype)) a (at-entry v f s i a li la) (at-inside v f s i a li la)) ∙ ap (entryOf (v .etype)) q ∙ entry-run (v .etype) (k % entries (v .etype)) b (at-entry v f t k b lk lb) (at-inside v f t k b lk lb) in
+      let m : i / entries (v .etype) * entries (v .etype) ≡ k / entries (v .etype) * entries (v .etype) = ap (λ (z : ℕ). z * entries (v .etype)) g in
+      d (omega (arith, m, e, div-add-mod' i (entries (v .etype)), div-add-mod' k (entries (v .etype))))
+      (omega (arith, q, ap (packedBefore (v .etype)) e))
+
+module _ (v : PaperView) (f : Facts v) where
+  -- the later byte in the first tile, the earlier one so many tiles on
+  meet : (i a k b : ℕ) → (i < entries (v .filetype)) × (a < widthAt (v .filetype) i) → (k < entries (v .filetype)) × (b < widthAt (v .filetype) k) → (i ≡ k → a ≡ b → ⊥) → (m : ℕ) → displacementAt (v .filetype) i + a ≡ displacementAt (v .filetype) k + b + m * extentOf (v .filetype) → Shared v
+  meet i a k b p q d m e =
+      let few : m ≤ 1048576 = omega (arith, f .file-ends i (p .0), p .1, e, mul-le-mul {n₁ = m} {m₁ = 1} {n₂ = m} {m₂ = extentOf (v .filetype)} (omega arith) (f .file-extent .0)) in
+      let x = at-belongs v f 0 i a (p .0) (p .1) (omega arith) in
+      let y = at-belongs v f m k b (q .0) (q .1) few in
+      let z : m * extentOf (v .filetype) + (displacementAt (v .filetype) k + b) ≡ 0 * extentOf (v .filetype) + (displacementAt (v .filetype) i + a) = omega (arith, e) in
+      record {
+        byte = whole (v .displacement) + (0 * extentOf (v .filetype) + (displacementAt (v .filetype) i + a));
+        x = offsetAt v f 0 i a (p .0) (p .1);
+        j = indexAt v f 0 i a (p .0) (p .1);
+        y = offsetAt v f m k b (q .0) (q .1);
+        k = indexAt v f m k b (q .0) (q .1);
+        one = x;
+        other = rw z at y;
+        different = pairs-differ v f 0 m i a k b (p .0) (p .1) (q .0) (q .1) d;
+      }
+
+  pub exact : ExactRule v
+  exact = record {
+    shares = λ i a k b c. ⊎-elim (λ e. meet i a k b (c .first) (c .second) (c .different) (c .places .times) e) (λ e. meet k b i a (c .second) (c .first) (λ p q. c .different (sym p) (sym q)) (c .places .times) e) (c .places .differ);
+    keeps = λ o. in-order-clear v o;
+  }
+
+-- of every view that is accepted for some mode
+pub exact-rule : (v : PaperView) → Valid v → ExactRule v
+exact-rule v k = exact v (facts v k)

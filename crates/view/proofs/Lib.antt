@@ -1,5 +1,6 @@
 pub mod Paper
 pub mod Groups
+pub mod Clashing
 pub mod Accepted
 pub mod Exactly
 pub mod FirstEntry

@@ -1,25 +1,27 @@
 -- What a refused set names, by its refusal number: each number is given only where its check fails and the earlier ones pass, so the entry that is named has the property of that number.
--- Rests on the theorems about single rules (FirstEntry.antt).
-use Rattle.laws.proofs.Prelude.{ℕ, _+_, _*_, _≤_, _<_, _≡_, _≢_, refl, sym, ap, _∙_, subst, Bool, true, false, not, cond, _⊎_, inl, inr, arith, eqb, ltb, ne-eqb, eq-eqb, lt-ltb, le-ltb, also, either, check, IsFirst, not-both, check-past, check-here, either-right}
+-- Rests on the theorems about single rules (FirstEntry.antt, Clashing.antt).
+use Rattle.laws.proofs.Prelude.{ℕ, _+_, _*_, _≤_, _<_, _≡_, _≢_, refl, sym, ap, _∙_, subst, Bool, true, false, not, cond, _⊎_, inl, inr, arith, eqb, ltb, ne-eqb, eq-eqb, lt-ltb, le-ltb, also, either, check, IsFirst, not-both, check-past, check-here, also-inv, either-right}
 use Rattle.view.specs.declared.Fault.{Fault}
 use Rattle.view.specs.declared.Named.{Named}
 use Rattle.view.specs.declared.Named.the-variants.{Nothing}
 use Rattle.view.specs.Types.{PaperType, PaperView, entries}
 use Rattle.view.specs.Modes.{allowsWriting}
-use Rattle.view.specs.Rules.{countsAllowed, entriesAllowed, typeOrdered, wholeGroups, IsBuilt, viewHolesFit, apart}
+use Rattle.view.specs.Rules.{countsAllowed, entriesAllowed, typeOrdered, wholeGroups, IsBuilt, viewHolesFit}
 use Rattle.view.specs.Named.{namedNumbers, BreaksLimits, BreaksOrder, BreaksHoles, BreaksOverlap, FirstOfBoth, FirstOfFiletype, FirstDiffering, FirstBelow, Names}
-use Rattle.view.specs.Parts.{groupMatches, originAllowed, decidingGroup, limitsEntry, orderEntry, ofBoth, namedBy, faultOf, faultBy}
+use Rattle.view.specs.Parts.{groupMatches, originAllowed, decidingGroup, limitsEntry, orderEntry, ofBoth, clear, namedBy, faultOf, faultBy}
 use Rattle.view.specs.Acceptance.{viewRefusal}
 use Rattle.view.proofs.Groups.{groups-whole, groups-some, built-checks, built-is}
 use Rattle.view.proofs.Exactly.{counts-some}
-use Rattle.view.proofs.FirstEntry.{limits-is, limits-none, order-is, order-none, differing-is, below-is, holes-is, overlap-is}
+use Rattle.view.proofs.FirstEntry.{limits-is, limits-none, order-is, order-none, differing-is, below-is, holes-is}
+use Rattle.view.proofs.Clashing.{Spaced, overlap-is}
+use Rattle.view.proofs.Accepted.{spaced}
 
 -- ---- what the chain says of each number
 
 module _ (mode : ℕ) (v : PaperView) where
   -- the chain from each of its checks on
   abbrev from10 : ℕ
-  from10 = check (either (not (allowsWriting mode)) (apart v)) 10 0
+  from10 = check (either (not (allowsWriting mode)) (clear v)) 10 0
 
   abbrev from9 : ℕ
   from9 = check (viewHolesFit v) 9 from10
@@ -94,15 +96,22 @@ module _ (mode : ℕ) (v : PaperView) where
       let r = reached18 9 refl refl refl refl refl refl e in
       (r .0, (r .1 .0, check-here _ from10 9 (reached9 9 refl refl (r .1 .1)) (never10 9 refl refl)))
 
-  pub fails-10 : viewRefusal mode v ≡ 10 → apart v ≡ false
+  pub fails-10 : viewRefusal mode v ≡ 10 → clear v ≡ false
   fails-10 e =
       let r = reached18 10 refl refl refl refl refl refl e in
       let x = check-past _ 9 from10 10 refl (reached9 10 refl refl (r .1 .1)) in
-      unless (not (allowsWriting mode)) (apart v) (check-here _ 0 10 (x .1) (λ z. not-both (eq-eqb 0 10 z) refl))
+      unless (not (allowsWriting mode)) (clear v) (check-here _ 0 10 (x .1) (λ z. not-both (eq-eqb 0 10 z) refl))
     where
       unless : (a b : Bool) → either a b ≡ false → b ≡ false
       unless a true h = not-both (either-right a true refl) h
       unless a false h = refl
+
+  -- where 10 is given, checks 5 and 6 pass
+  spaced-10 : viewRefusal mode v ≡ 10 → Spaced v
+  unfolding viewRefusal
+  spaced-10 e =
+      let c5 = check-past _ 5 from6 10 refl (check-past _ 4 _ 10 refl (check-past _ 3 _ 10 refl e .1) .1) in
+      spaced v (also-inv _ _ (c5 .0) .1) (also-inv _ _ (check-past _ 6 from7 10 refl (c5 .1) .0) .1)
 
   -- 17 is given only where the groups are not whole; after 19 the filetype is built of the etype
   pub fails-17 : viewRefusal mode v ≡ 17 → wholeGroups v ≡ false
@@ -157,7 +166,7 @@ module _ (mode : ℕ) (v : PaperView) where
 
   names-10 : viewRefusal mode v ≡ 10 → FirstOfFiletype v (BreaksOverlap v) (namedNumbers (namedBy v 10))
   unfolding namedBy namedNumbers
-  names-10 e = (refl, overlap-is v (fails-10 mode v e))
+  names-10 e = (refl, overlap-is v (spaced-10 mode v e) (fails-10 mode v e))
 
   -- any other number names nothing
   names-none : (n : ℕ) → n ≢ 6 → n ≢ 7 → n ≢ 18 → n ≢ 19 → n ≢ 9 → n ≢ 10 → namedNumbers (namedBy v n) ≡ namedNumbers Nothing

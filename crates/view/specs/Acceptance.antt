@@ -8,10 +8,10 @@ use Rattle.laws.specs.Checks.{also, either, check}
 use Rattle.view.specs.Limits.{extentAllowed, displacementAllowed}
 use Rattle.view.specs.Modes.{allowsWriting}
 use Rattle.view.specs.Types.{PaperView}
-use Rattle.view.specs.Rules.{isNative, countsAllowed, entriesAllowed, typeOrdered, wholeGroups, IsBuilt, viewHolesFit, apart}
-use Rattle.view.specs.Parts.{groupMatches, originAllowed, decidingGroup}
+use Rattle.view.specs.Rules.{isNative, countsAllowed, entriesAllowed, typeOrdered, wholeGroups, IsBuilt, viewHolesFit, NoClash}
+use Rattle.view.specs.Parts.{groupMatches, originAllowed, decidingGroup, clear}
 
--- the limits and rules for a mode, as document 01 words them: one field for each of checks 3 to 7, one for 17 to 19, and one for each of 9 and 10
+-- the limits and rules for a mode, as the papers word them: one field for each of checks 3 to 7, one for 17 to 19, and one for each of 9 and 10
 pub record IsAccepted (mode : ℕ) (v : PaperView) : Type 0 where
   pub displacement : displacementAllowed (v .displacement) ≡ true
   pub counts : countsAllowed v ≡ true
@@ -20,7 +20,7 @@ pub record IsAccepted (mode : ℕ) (v : PaperView) : Type 0 where
   pub ordered : also (typeOrdered (v .etype)) (typeOrdered (v .filetype)) ≡ true
   pub groups : IsBuilt v
   pub holes : viewHolesFit v ≡ true
-  pub overlap : allowsWriting mode ≡ true → apart v ≡ true
+  pub overlap : allowsWriting mode ≡ true → NoClash v
 
 -- refusals 3 to 10 in their order; in the place of 8 stand 17 and then, group by group, 18 before 19
 unfoldable pub viewRefusal : ℕ → PaperView → ℕ
@@ -34,7 +34,7 @@ viewRefusal mode v =
     (check (groupMatches v (decidingGroup v)) 18
     (check (originAllowed v (decidingGroup v)) 19
     (check (viewHolesFit v) 9
-    (check (either (not (allowsWriting mode)) (apart v)) 10
+    (check (either (not (allowsWriting mode)) (clear v)) 10
     0)))))))))
 
 -- and 2 before them

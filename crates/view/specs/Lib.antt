@@ -5,6 +5,7 @@ pub mod Rules
 pub mod Named
 pub mod Places
 pub mod Owners
+pub mod Overlap
 pub mod End
 pub mod Parts
 pub mod Acceptance

@@ -1,5 +1,5 @@
 -- Must be believed. Document 02, order 1: which entry of which type a refused set names.
-use Prim.Native.Nat.{ℕ, _+_, _-_, _*_, _<_}
+use Prim.Native.Nat.{ℕ, _+_, _-_, _*_, _≤_, _<_}
 use mathlib.Core.Bool.{true, false}
 use mathlib.Core.Logic.{_≢_, _⊎_}
 use mathlib.Core.Path.{_≡_}
@@ -7,8 +7,8 @@ use Rattle.laws.specs.Search.{IsFirst}
 use Rattle.view.specs.declared.Named.{Named}
 use Rattle.view.specs.declared.Named.the-variants.{Nothing, EtypeEntry, FiletypeEntry}
 use Rattle.view.specs.declared.NamedNumbers.{NamedNumbers}
-use Rattle.view.specs.Types.{PaperType, PaperView, entries, widthAt, displacementAt, extentOf}
-use Rattle.view.specs.Rules.{entryAllowed, wholeGroups, instances, holeAllowed}
+use Rattle.view.specs.Types.{PaperType, PaperView, entries, widthAt, displacementAt}
+use Rattle.view.specs.Rules.{entryAllowed, wholeGroups, instances, holeAllowed, Clash}
 
 -- the paper's numbers of what is named: type 0 for none, 1 for the etype, 2 for the filetype; the entry, 0 where there is none
 unfoldable pub namedNumbers : Named → NamedNumbers
@@ -43,11 +43,9 @@ BreaksHoles v i =
     ((g : ℕ) × ((g < instances v) × (i ≡ g * entries (v .etype)) × (holeAllowed v g ≡ false)))
     ⊎ ((i + 1 ≡ entries (v .filetype)) × (holeAllowed v (instances v) ≡ false))
 
--- 10: it begins before the entry before it ends, of the two the later; a tile overlap names the last entry
+-- 10: it has a byte a that clashes with itself or an earlier entry
 abbrev pub BreaksOverlap : PaperView → ℕ → Type 0
-BreaksOverlap v i =
-    ((0 < i) × (displacementAt (v .filetype) i < displacementAt (v .filetype) (i - 1) + widthAt (v .filetype) (i - 1)))
-    ⊎ ((i + 1 ≡ entries (v .filetype)) × (displacementAt (v .filetype) 0 + extentOf (v .filetype) < displacementAt (v .filetype) i + widthAt (v .filetype) i))
+BreaksOverlap v i = (k : ℕ) × ((a : ℕ) × ((b : ℕ) × ((k ≤ i) × Clash v i a k b)))
 
 -- ---- the first entry that breaks a rule
 

@@ -6,7 +6,7 @@ use mathlib.Core.Path.{_≡_}
 use lib.Dec.{leb, ltb, eqb}
 use lib.IntN.{pos}
 use lib.ListN.{replicate}
-use Rattle.laws.specs.Checks.{also}
+use Rattle.laws.specs.Checks.{also, either}
 use Rattle.laws.specs.Search.{leastFalse, all, total}
 use Rattle.laws.specs.Lists.{nth}
 use Rattle.laws.specs.Parts.{front, greatest}
@@ -19,7 +19,7 @@ use Rattle.view.specs.declared.Owner.{Owner}
 use Rattle.view.specs.declared.Owner.the-variants.{Pair, Nobody}
 use Rattle.view.specs.Limits.{offsetCount}
 use Rattle.view.specs.Types.{PaperType, PaperView, paper, entries, widthAt, displacementAt, extentOf, whole}
-use Rattle.view.specs.Rules.{entryAllowed, wholeGroups, instances, origin, hole, holeAllowed, entryApart}
+use Rattle.view.specs.Rules.{entryAllowed, wholeGroups, instances, origin, hole, holeAllowed}
 use Rattle.view.specs.Places.{packedBefore, dataSize, byteOf}
 
 -- ---- numbers of the table of limits, as inner contracts cite them
@@ -72,6 +72,30 @@ decidingGroup v = leastFalse (groupBuilt v) (instances v - 1)
 unfoldable pub built : PaperView → Bool
 built v = also (wholeGroups v) (also (groupMatches v (decidingGroup v)) (originAllowed v (decidingGroup v)))
 
+-- ---- overlap, of which the properties are `NoClash` and `BreaksOverlap`
+
+-- tiles in order, which is found in one walk: each entry ends at or before the next one begins, the last one before the first one of the next tile
+unfoldable pub nextBegins : PaperView → ℕ → ℕ
+nextBegins v i = cond (ltb (i + 1) (entries (v .filetype))) (displacementAt (v .filetype) (i + 1)) (displacementAt (v .filetype) 0 + extentOf (v .filetype))
+
+unfoldable pub entryApart : PaperView → ℕ → Bool
+entryApart v i = leb (displacementAt (v .filetype) i + widthAt (v .filetype) i) (nextBegins v i)
+
+unfoldable pub apart : PaperView → Bool
+apart v = all (entryApart v) (entries (v .filetype))
+
+-- in tiles of f bytes, no byte of w bytes at r of a tile clashes with one of x bytes at s: of the two the one ends at or before the other begins, and the other before the next tile's first
+unfoldable pub clearOf : ℕ → ℕ → ℕ → ℕ → ℕ → Bool
+clearOf f r w s x = either (also (leb (r + w) s) (leb (s + x) (r + f))) (also (leb (s + x) r) (leb (r + w) (s + f)))
+
+-- of entries with widths w and displacements d, entry i has no byte that clashes with itself or an earlier entry
+unfoldable pub entryClear : (ℕ → ℕ) → (ℕ → ℕ) → ℕ → ℕ → Bool
+entryClear w d f i = also (leb (w i) f) (all (λ k. clearOf f (d k % f) (w k) (d i % f) (w i)) i)
+
+-- no entry of the filetype has
+unfoldable pub clear : PaperView → Bool
+clear v = all (entryClear (widthAt (v .filetype)) (displacementAt (v .filetype)) (extentOf (v .filetype))) (entries (v .filetype))
+
 -- ---- what a refused set names, of which the property is `Names`
 
 -- 6: the first entry whose width or displacement is not allowed
@@ -104,13 +128,9 @@ holeNames k n m h = cond (ltb h k) (h * n) (m - 1)
 unfoldable pub holeEntry : PaperView → ℕ
 holeEntry v = holeNames (instances v) (entries (v .etype)) (entries (v .filetype)) (leastFalse (holeAllowed v) (instances v + 1))
 
--- of entry i of m and the next one the later; the last one has none after it
-unfoldable pub laterEntry : ℕ → ℕ → ℕ
-laterEntry i m = cond (ltb (i + 1) m) (i + 1) i
-
--- 10: the first entry that begins before the one before it ends, or the last one
+-- 10: the first entry with a byte that clashes with itself or an earlier entry
 unfoldable pub overlapEntry : PaperView → ℕ
-overlapEntry v = laterEntry (leastFalse (entryApart v) (entries (v .filetype))) (entries (v .filetype))
+overlapEntry v = leastFalse (entryClear (widthAt (v .filetype)) (displacementAt (v .filetype)) (extentOf (v .filetype))) (entries (v .filetype))
 
 -- by the refusal number
 unfoldable pub namedBy : PaperView → ℕ → Named

@@ -2,6 +2,7 @@
 use Prim.Native.Nat.{ℕ, zero, suc, _+_, _-_, _*_, _/_, _%_, _<_}
 use mathlib.Core.Bool.{Bool, cond}
 use mathlib.Core.List.{List, [], _∷_}
+use mathlib.Core.Logic.{_⊎_}
 use mathlib.Core.Path.{_≡_}
 use lib.Dec.{leb, ltb, eqb}
 use lib.IntN.{pos}
@@ -82,15 +83,20 @@ holeAllowed v i = eqb (hole (origin v) (instances v) (extentOf (v .etype)) (exte
 unfoldable pub viewHolesFit : PaperView → Bool
 viewHolesFit v = all (holeAllowed v) (instances v + 1)
 
--- ---- Overlap
+-- ---- Overlap (document 02, order 3): two different data bytes of the filetype never have places that differ by a multiple of F, zero included
 
--- where the entry after entry i begins; the one after the last is the first of the next tile
-unfoldable pub nextBegins : PaperView → ℕ → ℕ
-nextBegins v i = cond (ltb (i + 1) (entries (v .filetype))) (displacementAt (v .filetype) (i + 1)) (displacementAt (v .filetype) 0 + extentOf (v .filetype))
+-- p and q differ by a multiple of f, zero included
+pub record DifferByMultiple (f p q : ℕ) : Type 0 where
+  pub times : ℕ
+  pub differ : (p ≡ q + times * f) ⊎ (q ≡ p + times * f)
 
--- entry i ends at or before the next one begins
-unfoldable pub entryApart : PaperView → ℕ → Bool
-entryApart v i = leb (displacementAt (v .filetype) i + widthAt (v .filetype) i) (nextBegins v i)
+-- byte a of entry i and byte b of entry k clash: they are different data bytes of the filetype, and their places differ so
+pub record Clash (v : PaperView) (i a k b : ℕ) : Type 0 where
+  pub first : (i < entries (v .filetype)) × (a < widthAt (v .filetype) i)
+  pub second : (k < entries (v .filetype)) × (b < widthAt (v .filetype) k)
+  pub different : i ≡ k → a ≡ b → ⊥
+  pub places : DifferByMultiple (extentOf (v .filetype)) (displacementAt (v .filetype) i + a) (displacementAt (v .filetype) k + b)
 
-unfoldable pub apart : PaperView → Bool
-apart v = all (entryApart v) (entries (v .filetype))
+-- no two do
+pub record NoClash (v : PaperView) : Type 0 where
+  pub never : (i a k b : ℕ) → Clash v i a k b → ⊥

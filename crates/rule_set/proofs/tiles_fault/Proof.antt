@@ -1,6 +1,6 @@
 -- `tiles_fault` follows checks 9 and 10 in their order. Assumes nothing.
 use borrow.Author.Needs.{needs}
-use Rattle.rule_set.proofs.Shaping.{hole-begins, inner-hole, final-hole, overlap-unasked, overlap-found, overlap-none}
+use Rattle.rule_set.proofs.Shaping.{hole-begins, inner-hole, final-hole, overlap-unasked, tiles-apart, overlap-found, overlap-none}
 use Rattle.rule_set.proofs.tiles_fault.Statement.{statement}
 use Rattle.rule_set.proofs.tiles_fault.Tie as tie
 
@@ -17,10 +17,13 @@ returns-3 : tie.Need-returns-3
 returns-3 c = search overlap-unasked
 
 returns-4 : tie.Need-returns-4
-returns-4 c = search overlap-found
+returns-4 c = search tiles-apart
 
 returns-5 : tie.Need-returns-5
-returns-5 c = search overlap-none
+returns-5 c = search overlap-found
+
+returns-6 : tie.Need-returns-6
+returns-6 c = search overlap-none
 
 pub tiles-fault-spec : {M : Type 1} → statement M
 tiles-fault-spec =
@@ -39,5 +42,8 @@ tiles-fault-spec =
     (λ c κs. search needs)
     (λ c κs. tt)
     returns-4
+    (λ c κs. search needs)
     (λ c κs. tt)
-    returns-5)
+    returns-5
+    (λ c κs. tt)
+    returns-6)

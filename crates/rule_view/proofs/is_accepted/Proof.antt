@@ -1,10 +1,10 @@
--- `is_accepted` follows the tests on the parts, which make up the rules on the view that the parts stand for. Assumes nothing.
 use Rattle.laws.proofs.Prelude.{needs, le-leb, lt-leb, tests, unflag-true, unflag-false, also-yes, also-no}
 use Rattle.rule_view.specs.Parts.{viewAccepted}
-use Rattle.rule_view.proofs.Chains.{shape-flags}
-use Rattle.rule_view.proofs.Whole.{keeps-by, no-writing, writing}
+use Rattle.rule_view.proofs.Chains.{shape-flags, groups-flags}
+use Rattle.rule_view.proofs.Whole.{keeps-by, no-writing, in-order, out-of-order}
 use Rattle.rule_view.proofs.is_accepted.Statement.{statement}
 use Rattle.rule_view.proofs.is_accepted.Tie as tie
+use borrow.Author.Needs.{needs}
 
 returns : tie.Need-returns
 unfolding viewAccepted
@@ -33,7 +33,17 @@ shape-apart-requires c κs =
 
 returns-5 : tie.Need-returns-5
 unfolding viewAccepted
-returns-5 c = keeps-by _ _ _ (also-yes _ _ _ (search le-leb) (also-yes _ _ _ (search unflag-true) (also-yes _ _ _ (search unflag-true) (search writing))))
+returns-5 c = keeps-by _ _ _ (also-yes _ _ _ (search le-leb) (also-yes _ _ _ (search unflag-true) (also-yes _ _ _ (search unflag-true) (search in-order))))
+
+view-clear-requires : tie.Need-view-clear-requires
+view-clear-requires c κs =
+    let f = c .before .before .before .before in
+    let e = f .before .before in
+    groups-flags _ _ _ _ _ _ (e .before .etype-valid .ensures) (e .if2 .left) (f .before .filetype-valid .ensures) (f .if3 .left)
+
+returns-6 : tie.Need-returns-6
+unfolding viewAccepted
+returns-6 c = keeps-by _ _ _ (also-yes _ _ _ (search le-leb) (also-yes _ _ _ (search unflag-true) (also-yes _ _ _ (search unflag-true) (search out-of-order))))
 
 pub is-accepted-spec : {M : Type 1} → statement M
 is-accepted-spec =
@@ -47,4 +57,6 @@ is-accepted-spec =
     (λ c κs. search needs)
     returns-4
     shape-apart-requires
-    returns-5)
+    returns-5
+    view-clear-requires
+    returns-6)

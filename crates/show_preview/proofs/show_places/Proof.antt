@@ -6,10 +6,10 @@ use Rattle.show_preview.proofs.show_places.Statement.{statement}
 use Rattle.show_preview.proofs.show_places.Tie as tie
 
 abbrev Inv-loop : tie.InvT-loop
-Inv-loop v widths displacements origins mode size o₀ t1 t2 t3 t4 o = (o ≤ 5) × Tiled v × OriginsLow v origins
+Inv-loop v widths displacements origins mode size o₀ t1 t2 t3 t4 o = (o ≤ 6) × Tiled v × OriginsLow v origins
 
 abbrev μ-loop : tie.MeasureT-loop
-μ-loop v widths displacements origins mode size o₀ t1 t2 t3 t4 o = 5 - o
+μ-loop v widths displacements origins mode size o₀ t1 t2 t3 t4 o = 6 - o
 
 is-accepted-requires : tie.Need-is-accepted-requires Inv-loop μ-loop
 is-accepted-requires c κs = search showing

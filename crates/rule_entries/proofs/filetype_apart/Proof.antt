@@ -1,9 +1,9 @@
--- `first_overlap` passes the entries in order and leaves at the first that reaches past the next one's beginning. Assumes nothing.
+-- `filetype_apart` passes the entries in order and leaves at the first that reaches past the next one's beginning. Assumes nothing.
 use Rattle.laws.proofs.Prelude.{_-_, _≤_, _<_, _≡_, length, needs, Passed, passed-none}
 use Rattle.rule_entries.specs.Parts.{apartIn, ListsReady}
-use Rattle.rule_entries.proofs.Fitting.{end-fits, end-last, tile-fits, pair-apart, pair-more, pair-overlaps, overlap-inner, overlap-tile, overlap-none, lists-some}
-use Rattle.rule_entries.proofs.first_overlap.Statement.{statement}
-use Rattle.rule_entries.proofs.first_overlap.Tie as tie
+use Rattle.rule_entries.proofs.Fitting.{end-fits, end-last, tile-fits, pair-apart, pair-more, pair-overlaps, apart-fails, apart-last, lists-some}
+use Rattle.rule_entries.proofs.filetype_apart.Statement.{statement}
+use Rattle.rule_entries.proofs.filetype_apart.Tie as tie
 
 abbrev Inv-loop : tie.InvT-loop
 Inv-loop ws ds extent last i₀ i = (0 < length ws) × (length ds ≡ length ws) × (last ≡ length ws - 1) × (i ≤ length ws - 1) × ListsReady ws ds extent × Passed (apartIn ws ds extent) i (length ws)
@@ -21,9 +21,7 @@ add-end : tie.Need-add-end Inv-loop μ-loop
 add-end c = search end-fits
 
 returns : tie.Need-returns Inv-loop μ-loop
-returns c =
-    let in-loop = c .before .before .before .before in
-    overlap-inner _ _ _ _ (in-loop .before .loop .inv .5) (in-loop .loop-test .taken) (pair-overlaps _ _ _ _ (in-loop .loop-test .taken) (c .if1 .taken))
+returns c = search (apart-fails, pair-overlaps)
 
 loop-again : tie.Need-loop-again Inv-loop μ-loop
 loop-again c = search (needs, pair-more, pair-apart)
@@ -31,17 +29,14 @@ loop-again c = search (needs, pair-more, pair-apart)
 add-end-2 : tie.Need-add-end-2 Inv-loop μ-loop
 add-end-2 c = search end-last
 
-add-next-tile : tie.Need-add-next-tile Inv-loop μ-loop
-add-next-tile c = search tile-fits
+add-result : tie.Need-add-result Inv-loop μ-loop
+add-result c = search tile-fits
 
 returns-2 : tie.Need-returns-2 Inv-loop μ-loop
-returns-2 c = search overlap-tile
+returns-2 c = search apart-last
 
-returns-3 : tie.Need-returns-3 Inv-loop μ-loop
-returns-3 c = search overlap-none
-
-pub first-overlap-spec : {M : Type 1} → statement M
-first-overlap-spec =
+pub filetype-apart-spec : {M : Type 1} → statement M
+filetype-apart-spec =
     tie.close
     (tie.spec
     Inv-loop
@@ -66,6 +61,5 @@ first-overlap-spec =
     (λ c. search needs)
     add-end-2
     (λ c. search needs)
-    add-next-tile
-    returns-2
-    returns-3)
+    add-result
+    returns-2)

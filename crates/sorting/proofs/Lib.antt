@@ -1,0 +1,4 @@
+pub mod Halves
+pub mod Merges
+pub mod Permuted
+pub mod Ordering
