@@ -478,8 +478,8 @@ def whole_traces():
     yield s
 
 
-def interlaced_traces():
-    """Views whose tiles interlace: the highest byte of a write is not always its last one."""
+def p12_traces():
+    """P12's view: the highest byte of a write is not always its last one."""
     s = Trace("P12")
     s.open(3)
     s.set(P12)
@@ -511,6 +511,11 @@ def interlaced_traces():
         s.add(write_here(2, b"DE"), answer, count=0 if answer else 2, pointer=0 if answer else 2)
         s.add(check(FILE - 4, bytes(4) if answer else b"D\0CE"))
         yield s
+
+
+def interlaced_traces():
+    """Views whose tiles interlace."""
+    yield from p12_traces()
     s = Trace("words at 0 and 12, F = 8")
     s.open(2)
     s.set(words((0, 12), 8))

@@ -209,6 +209,17 @@ def sizes(s):
 
 # Views whose bytes clash
 
+def clashing_groups():
+    """Of `clashing`, the views with several entries in the etype."""
+    yield "widths 1, 2, F = 6: the last byte", entries_at((1, 2), (0, 1), 6, (0, 10)), 3
+    yield "widths 1, 2, F = 5", Shape((1, 2), (0, 1), 3, (0, 9), 5), 3
+    yield "P8's etype, F = 17: the last byte", Shape((4, 1), (0, 4), 8, (0, 64), 17), 3
+    yield "three entries, the third one byte wider", entries_at((2, 4, 2), (0, 9, 20), 7), 2
+    yield "three entries, K = 2, the last one alone", entries_at((2, 1, 1), (1, 5, 19), 10, (0, 22)), 5
+    yield "two entries, K = 3, the third group", entries_at((1, 1), (0, 4), 9, (0, 10, 18)), 4
+    yield "two entries, K = 3, the last of the second group", entries_at((1, 1), (0, 4), 9, (0, 14, 20)), 3
+
+
 def clashing():
     """Each with the first entry that has a byte clashing with itself or an earlier entry."""
     yield "entries 0 and 2, F = 2", bytes_at((0, 2), 2), 1
@@ -242,14 +253,7 @@ def clashing():
     yield "words at 0 and 12, F = 9: the first byte", entries_at((4,), (0,), 9, (0, 12)), 1
     yield "width 8 at 0 and 25, F = 16: the last byte", entries_at((8,), (0,), 16, (0, 25)), 1
     yield "width 8 at 0 and 23, F = 16: the first byte", entries_at((8,), (0,), 16, (0, 23)), 1
-    # several entries in the etype
-    yield "widths 1, 2, F = 6: the last byte", entries_at((1, 2), (0, 1), 6, (0, 10)), 3
-    yield "widths 1, 2, F = 5", Shape((1, 2), (0, 1), 3, (0, 9), 5), 3
-    yield "P8's etype, F = 17: the last byte", Shape((4, 1), (0, 4), 8, (0, 64), 17), 3
-    yield "three entries, the third one byte wider", entries_at((2, 4, 2), (0, 9, 20), 7), 2
-    yield "three entries, K = 2, the last one alone", entries_at((2, 1, 1), (1, 5, 19), 10, (0, 22)), 5
-    yield "two entries, K = 3, the third group", entries_at((1, 1), (0, 4), 9, (0, 10, 18)), 4
-    yield "two entries, K = 3, the last of the second group", entries_at((1, 1), (0, 4), 9, (0, 14, 20)), 3
+    yield from clashing_groups()
 
 
 def clashing_views(s):

@@ -8,6 +8,7 @@ use Rattle.view.specs.Acceptance.{IsAccepted, viewRefusal, setRefusal, accepted
 use Rattle.view.specs.Named.{namedNumbers, Names}
 use Rattle.view.specs.Parts.{namedBy, recordOf}
 use Rattle.view.proofs.Exactly.{accepted-is, accepted-only}
+use Rattle.view.proofs.Injective.{refused-shares}
 use Rattle.view.proofs.Telling.{named-is, fails-17, built-9, built-10, never-8}
 use Rattle.view.proofs.Holding.{record-same}
 use Rattle.handle.specs.Handles.{handleValid}
@@ -107,6 +108,7 @@ module _ (h : Handle) (representation : List ℕ) (v : PaperView) (s : SetViewAn
     names = names-are;
     multiple = λ q. fails-17 (h .mode) v (of-view 17 refl refl q);
     groups = ⊎-elim (λ q. built-9 (h .mode) v (of-view 9 refl refl q)) (λ q. built-10 (h .mode) v (of-view 10 refl refl q));
+    shared = λ q. refused-shares (h .mode) v (of-view 10 refl refl q);
     never-8 = never;
     view = view-is;
     pointer = pointer-zero;

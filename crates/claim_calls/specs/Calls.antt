@@ -14,6 +14,7 @@ use Rattle.view.specs.Named.{namedNumbers, Names}
 use Rattle.view.specs.Acceptance.{IsAccepted}
 use Rattle.view.specs.Parts.{endOfFile}
 use Rattle.view.specs.End.{IsEnd}
+use Rattle.view.specs.Overlap.{Shared}
 use Rattle.handle.specs.declared.FileRecord.{FileRecord}
 use Rattle.handle.specs.Handles.{handleValid, fileValid}
 use Rattle.call_checks.specs.Refusals.{openRefusal, setViewRefusal, getViewRefusal, byteOffsetRefusal, reverseRefusal, endRefusal, seekTarget, seekRefusal, readRefusal, writeRefusal}
@@ -55,7 +56,7 @@ pub record Opened (asked : ℕ) (r : OpenAnswer) : Type 0 where
 -- ---- set
 
 -- granted exactly if the handle passes check 1, the representation is `native`, and the view keeps the limits and rules for the handle's mode; the handle then has the lent view and pointer 0, and its mode stays.
--- A refusal names what order 1 says. 17 is given only where the entry count is no multiple of the etype's, and what is refused with 9 or 10 is built of the etype. 8 is given no more
+-- A refusal names what order 1 says. 17 is given only where the entry count is no multiple of the etype's, and what is refused with 9 or 10 is built of the etype. Where 10 is given, some file byte belongs to two pairs (order 3). 8 is given no more
 pub record ViewSet (h : Handle) (representation : List ℕ) (v : PaperView) (r : SetViewAnswer) : Type 0 where
   pub number : r .refusal ≡ setViewRefusal (onPaper h) representation v
   pub count : r .count ≡ 0
@@ -65,6 +66,7 @@ pub record ViewSet (h : Handle) (representation : List ℕ) (v : PaperView) (r :
   pub names : Names v (r .refusal) (namedNumbers (r .named))
   pub multiple : r .refusal ≡ 17 → wholeGroups v ≡ false
   pub groups : (r .refusal ≡ 9) ⊎ (r .refusal ≡ 10) → IsBuilt v
+  pub shared : r .refusal ≡ 10 → Shared v
   pub never-8 : r .refusal ≢ 8
   pub view : r .refusal ≡ 0 → viewOf (r .handle) ≡ v
   pub pointer : r .refusal ≡ 0 → r .handle .pointer ≡ 0

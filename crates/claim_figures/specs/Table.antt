@@ -1,4 +1,4 @@
--- Must be believed. Document 01, "Figures on both sides of the lines": the rows marked (P), each with the paper's own lists and numbers, through the definitions of the calls. Examples: no claim rests on them.
+-- Must be believed. Document 01, "Figures on both sides of the lines": the rows marked (P), each with the paper's own lists and numbers, P12 with those of document 02's order 3, through the definitions of the calls. Examples: no claim rests on them.
 use Prim.Native.Nat.{ℕ, _+_, _-_, _*_}
 use mathlib.Core.Bool.{Bool, true, false}
 use mathlib.Core.List.{List, [], _∷_, map}

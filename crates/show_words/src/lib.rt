@@ -32,7 +32,7 @@ pub fn print_rule(refusal: u64) {
         View::REFUSED_ORDER => say(b"displacements decrease"),
         View::REFUSED_HOLE => say(b"a hole is no multiple of the etype's extent"),
         View::REFUSED_OVERLAP => say(
-            b"two data bytes lie a multiple of the filetype's extent apart, and the mode allows writing",
+            b"two data bytes lie at one place or a multiple of the filetype's extent apart, and the mode allows writing",
         ),
         View::REFUSED_MODE => say(
             b"a read in a mode without reading, or a write or reverse lookup in one without writing",

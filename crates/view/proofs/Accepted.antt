@@ -1,5 +1,5 @@
 -- What an accepted view keeps: the rules one by one, and the same as facts on numbers.
-use Rattle.laws.proofs.Prelude.{ℕ, _+_, _-_, _*_, _/_, _%_, _≤_, _<_, _≡_, refl, sym, ap, _∙_, true, not, ⊎-elim, arith, div-add-mod', le-of-mul-le-mul-right, mod-lt, eq-zero-or-pos, zero-mul, mul-mod-left, mul-div-cancel, add-zero, getD, ℤ, pos, negsuc, lit<, leb-true, le-leb, eqb-true, eq-eqb, either, check-inv, check-zero, also-true, also-inv, either-inv, within-inv, not-both, all-at, all-intro, leastFalse, least-false-le, ends-holds, run-below, runs-below}
+use Rattle.laws.proofs.Prelude.{ℕ, _+_, _-_, _*_, _/_, _%_, _≤_, _<_, _≡_, refl, sym, ap, _∙_, true, not, ⊎-elim, arith, div-add-mod', le-of-mul-le-mul-right, mod-lt, eq-zero-or-pos, zero-mul, mul-mod-left, mul-div-cancel, add-zero, getD, ℤ, pos, negsuc, lit<, leb-true, le-leb, eqb-true, eq-eqb, either, check-inv, check-zero, also-true, also-inv, either-inv, either-right, within-inv, not-both, all-at, all-intro, leastFalse, least-false-le, ends-holds, run-below, runs-below}
 use Rattle.view.specs.Limits.{widthAllowed, etypeEntriesAllowed, filetypeEntriesAllowed, entryDisplacementAllowed, extentAllowed, displacementAllowed}
 use Rattle.view.specs.Types.{PaperType, PaperView, entries, widthAt, displacementAt, extentOf, whole}
 use Rattle.view.specs.Rules.{paired, entryAllowed, entriesAllowed, typeOrdered, instances, origin, holeAllowed, viewHolesFit}
@@ -111,6 +111,27 @@ rules-valid mode v r = record {
 
 pub accepted-valid : (mode : ℕ) (v : PaperView) → accepted mode v ≡ true → Valid v
 accepted-valid mode v h = rules-valid mode v (rules mode v h)
+
+-- and with overlap's rule it is accepted for any mode
+pub valid-clear : (mode : ℕ) (v : PaperView) → Valid v → clear v ≡ true → accepted mode v ≡ true
+valid-clear mode v k c =
+    let r = rules 1 v (k .keeps) in
+    rules-accept mode v (record {
+      displacement = r .displacement;
+      etype-paired = r .etype-paired;
+      filetype-paired = r .filetype-paired;
+      etype-entries = r .etype-entries;
+      filetype-entries = r .filetype-entries;
+      etype-extent = r .etype-extent;
+      filetype-extent = r .filetype-extent;
+      etype-allowed = r .etype-allowed;
+      filetype-allowed = r .filetype-allowed;
+      etype-ordered = r .etype-ordered;
+      filetype-ordered = r .filetype-ordered;
+      is-built = r .is-built;
+      holes = r .holes;
+      overlap = either-right (not (allowsWriting mode)) (clear v) c;
+    })
 
 -- one that is accepted for writing keeps overlap's too
 pub writing-clear : (mode : ℕ) (v : PaperView) → accepted mode v ≡ true → allowsWriting mode ≡ true → clear v ≡ true

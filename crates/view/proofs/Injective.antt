@@ -4,14 +4,16 @@
 use Rattle.laws.proofs.Prelude.{ℕ, _+_, _-_, _*_, _/_, _%_, _≤_, _<_, _≡_, _≢_, refl, sym, ap, _∙_, true, _⊎_, inl, inr, ⊎-elim, arith, div-add-mod', mod-lt, add-mul, mul-le-mul, mul-le-mul-right, times-more, one-mul, lt-or-le, eq-or-ne, run-div, run-mod, run-below, runs-below}
 use Rattle.view.specs.Types.{PaperView, entries, widthAt, displacementAt, extentOf, whole}
 use Rattle.view.specs.Rules.{instances, origin, DifferByMultiple, Clash, NoClash}
-use Rattle.view.specs.Acceptance.{accepted, Valid}
+use Rattle.view.specs.Acceptance.{viewRefusal, accepted, Valid}
 use Rattle.view.specs.Modes.{allowsWriting}
 use Rattle.view.specs.Places.{place, dataSize, packedBefore, entryOf, dataAt, byteOf}
+use Rattle.view.specs.Named.{BreaksOverlap}
 use Rattle.view.specs.Owners.{Belongs}
 use Rattle.view.specs.Overlap.{Shared, ExactRule}
 use Rattle.view.specs.Parts.{Distinct, Narrow}
-use Rattle.view.proofs.Clashing.{clear-is, in-order-clear}
-use Rattle.view.proofs.Accepted.{Facts, facts, accepted-valid, writing-clear, instances-some, instances-few}
+use Rattle.view.proofs.Clashing.{Spaced, clear-is, clear-only, overlap-is, in-order-clear}
+use Rattle.view.proofs.Telling.{fails-10, valid-10}
+use Rattle.view.proofs.Accepted.{Facts, facts, accepted-valid, writing-clear, valid-clear, rules, spaced, instances-some, instances-few}
 use Rattle.view.proofs.Packing.{entry-below, entry-ends, entry-begins, entry-run, data-run, packed-part}
 
 -- ---- data byte j of offset x as a byte of the filetype
@@ -176,6 +178,9 @@ module _ (v : PaperView) (f : Facts v) (s t i a k b : ℕ) (li : i < entries (v 
       d (omega (arith, m, e, div-add-mod' i (entries (v .etype)), div-add-mod' k (entries (v .etype))))
       (omega (arith, q, ap (packedBefore (v .etype)) e))
 
+valid-spaced : (v : PaperView) → Valid v → Spaced v
+valid-spaced v k = let r = rules 1 v (k .keeps) in spaced v (r .filetype-extent) (r .filetype-allowed)
+
 module _ (v : PaperView) (f : Facts v) where
   -- the later byte in the first tile, the earlier one so many tiles on
   meet : (i a k b : ℕ) → (i < entries (v .filetype)) × (a < widthAt (v .filetype) i) → (k < entries (v .filetype)) × (b < widthAt (v .filetype) k) → (i ≡ k → a ≡ b → ⊥) → (m : ℕ) → displacementAt (v .filetype) i + a ≡ displacementAt (v .filetype) k + b + m * extentOf (v .filetype) → Shared v
@@ -195,12 +200,19 @@ module _ (v : PaperView) (f : Facts v) where
         different = pairs-differ v f 0 m i a k b (p .0) (p .1) (q .0) (q .1) d;
       }
 
-  pub exact : ExactRule v
-  exact = record {
+  exact : Valid v → ExactRule v
+  exact valid = record {
     shares = λ i a k b c. ⊎-elim (λ e. meet i a k b (c .first) (c .second) (c .different) (c .places .times) e) (λ e. meet k b i a (c .second) (c .first) (λ p q. c .different (sym p) (sym q)) (c .places .times) e) (c .places .differ);
-    keeps = λ o. in-order-clear v o;
+    keeps = λ mode o. valid-clear mode v valid (clear-only v (valid-spaced v valid) (in-order-clear v o));
   }
 
 -- of every view that is accepted for some mode
 pub exact-rule : (v : PaperView) → Valid v → ExactRule v
-exact-rule v k = exact v (facts v k)
+exact-rule v k = exact v (facts v k) k
+
+-- so a view that is refused with 10 has a file byte of two pairs
+pub refused-shares : (mode : ℕ) (v : PaperView) → viewRefusal mode v ≡ 10 → Shared v
+refused-shares mode v e = found (overlap-is v (valid-spaced v (valid-10 mode v e)) (fails-10 mode v e) .here)
+  where
+    found : {i : ℕ} → BreaksOverlap v i → Shared v
+    found {i} (k, (a, (b, (_, c)))) = exact-rule v (valid-10 mode v e) .shares i a k b c

@@ -1,6 +1,6 @@
 -- What a refused set names, by its refusal number: each number is given only where its check fails and the earlier ones pass, so the entry that is named has the property of that number.
 -- Rests on the theorems about single rules (FirstEntry.antt, Clashing.antt).
-use Rattle.laws.proofs.Prelude.{ℕ, _+_, _*_, _≤_, _<_, _≡_, _≢_, refl, sym, ap, _∙_, subst, Bool, true, false, not, cond, _⊎_, inl, inr, arith, eqb, ltb, ne-eqb, eq-eqb, lt-ltb, le-ltb, also, either, check, IsFirst, not-both, check-past, check-here, also-inv, either-right}
+use Rattle.laws.proofs.Prelude.{ℕ, _+_, _*_, _≤_, _<_, _≡_, _≢_, refl, sym, ap, _∙_, subst, Bool, true, false, not, cond, _⊎_, inl, inr, arith, eqb, ltb, ne-eqb, eq-eqb, lt-ltb, le-ltb, also, either, check, IsFirst, not-both, check-past, check-here, check-zero, also-inv, either-right}
 use Rattle.view.specs.declared.Fault.{Fault}
 use Rattle.view.specs.declared.Named.{Named}
 use Rattle.view.specs.declared.Named.the-variants.{Nothing}
@@ -9,7 +9,7 @@ use Rattle.view.specs.Modes.{allowsWriting}
 use Rattle.view.specs.Rules.{countsAllowed, entriesAllowed, typeOrdered, wholeGroups, IsBuilt, viewHolesFit}
 use Rattle.view.specs.Named.{namedNumbers, BreaksLimits, BreaksOrder, BreaksHoles, BreaksOverlap, FirstOfBoth, FirstOfFiletype, FirstDiffering, FirstBelow, Names}
 use Rattle.view.specs.Parts.{groupMatches, originAllowed, decidingGroup, limitsEntry, orderEntry, ofBoth, clear, namedBy, faultOf, faultBy}
-use Rattle.view.specs.Acceptance.{viewRefusal}
+use Rattle.view.specs.Acceptance.{viewRefusal, accepted, Valid}
 use Rattle.view.proofs.Groups.{groups-whole, groups-some, built-checks, built-is}
 use Rattle.view.proofs.Exactly.{counts-some}
 use Rattle.view.proofs.FirstEntry.{limits-is, limits-none, order-is, order-none, differing-is, below-is, holes-is}
@@ -112,6 +112,25 @@ module _ (mode : ℕ) (v : PaperView) where
   spaced-10 e =
       let c5 = check-past _ 5 from6 10 refl (check-past _ 4 _ 10 refl (check-past _ 3 _ 10 refl e .1) .1) in
       spaced v (also-inv _ _ (c5 .0) .1) (also-inv _ _ (check-past _ 6 from7 10 refl (c5 .1) .0) .1)
+
+  -- and all others but 10
+  pub valid-10 : viewRefusal mode v ≡ 10 → Valid v
+  unfolding accepted viewRefusal either allowsWriting
+  valid-10 e =
+      let c3 = check-past _ 3 _ 10 refl e in
+      let c4 = check-past _ 4 _ 10 refl (c3 .1) in
+      let c5 = check-past _ 5 from6 10 refl (c4 .1) in
+      let c6 = check-past _ 6 from7 10 refl (c5 .1) in
+      let c7 = check-past _ 7 from17 10 refl (c6 .1) in
+      let c17 = check-past _ 17 from18 10 refl (c7 .1) in
+      let c18 = check-past _ 18 from19 10 refl (c17 .1) in
+      let c19 = check-past _ 19 from9 10 refl (c18 .1) in
+      let c9 = check-past _ 9 from10 10 refl (c19 .1) in
+      record {
+        keeps = eq-eqb (viewRefusal 1 v) 0
+            (check-zero 3 (c3 .0) (check-zero 4 (c4 .0) (check-zero 5 (c5 .0) (check-zero 6 (c6 .0) (check-zero 7 (c7 .0)
+            (check-zero 17 (c17 .0) (check-zero 18 (c18 .0) (check-zero 19 (c19 .0) (check-zero 9 (c9 .0) (check-zero 10 refl refl))))))))));
+      }
 
   -- 17 is given only where the groups are not whole; after 19 the filetype is built of the etype
   pub fails-17 : viewRefusal mode v ≡ 17 → wholeGroups v ≡ false

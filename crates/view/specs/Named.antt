@@ -1,4 +1,4 @@
--- Must be believed. Document 02, order 1: which entry of which type a refused set names.
+-- Must be believed. Document 02, order 1, and for 10 order 3: which entry of which type a refused set names.
 use Prim.Native.Nat.{ℕ, _+_, _-_, _*_, _≤_, _<_}
 use mathlib.Core.Bool.{true, false}
 use mathlib.Core.Logic.{_≢_, _⊎_}

@@ -1,8 +1,10 @@
 -- Must be believed. Document 02, order 3: what the overlap rule refuses and what it does not.
 use Prim.Native.Nat.{ℕ, _+_, _-_, _≤_, _<_}
+use mathlib.Core.Bool.{true}
 use mathlib.Core.Path.{_≡_}
 use Rattle.view.specs.Types.{PaperView, entries, widthAt, displacementAt, extentOf}
-use Rattle.view.specs.Rules.{Clash, NoClash}
+use Rattle.view.specs.Rules.{Clash}
+use Rattle.view.specs.Acceptance.{accepted}
 use Rattle.view.specs.Owners.{Belongs}
 
 -- some file byte belongs to two different pairs
@@ -24,4 +26,4 @@ pub record InOrder (v : PaperView) : Type 0 where
 -- bytes that clash share a file byte, so no weaker rule keeps one owner; and what document 01 accepted for writing is accepted
 pub record ExactRule (v : PaperView) : Type 0 where
   pub shares : (i a k b : ℕ) → Clash v i a k b → Shared v
-  pub keeps : InOrder v → NoClash v
+  pub keeps : (mode : ℕ) → InOrder v → accepted mode v ≡ true

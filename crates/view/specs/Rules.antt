@@ -1,4 +1,4 @@
--- Must be believed. Document 01, "When a view is accepted": the rules. What a set is refused with is in Acceptance.antt.
+-- Must be believed. Document 01, "When a view is accepted": the rules, that of overlap as document 02's order 3 has it. What a set is refused with is in Acceptance.antt.
 use Prim.Native.Nat.{ℕ, zero, suc, _+_, _-_, _*_, _/_, _%_, _<_}
 use mathlib.Core.Bool.{Bool, cond}
 use mathlib.Core.List.{List, [], _∷_}
