@@ -84,54 +84,39 @@ rules-accept mode v r =
     (let b = built-parts v (r .is-built) in
     check-zero 17 (b .0) (check-zero 18 (b .1) (check-zero 19 (b .2) (check-zero 9 (r .holes) (check-zero 10 (r .overlap) refl))))))))))
 
+-- the rules for one mode are those for another, but for overlap's
+for-mode : (mode other : ℕ) (v : PaperView) → Rules mode v → either (not (allowsWriting other)) (clear v) ≡ true → Rules other v
+for-mode mode other v r o = record {
+  displacement = r .displacement;
+  etype-paired = r .etype-paired;
+  filetype-paired = r .filetype-paired;
+  etype-entries = r .etype-entries;
+  filetype-entries = r .filetype-entries;
+  etype-extent = r .etype-extent;
+  filetype-extent = r .filetype-extent;
+  etype-allowed = r .etype-allowed;
+  filetype-allowed = r .filetype-allowed;
+  etype-ordered = r .etype-ordered;
+  filetype-ordered = r .filetype-ordered;
+  is-built = r .is-built;
+  holes = r .holes;
+  overlap = o;
+}
+
 reading-only : (v : PaperView) → either (not (allowsWriting 1)) (clear v) ≡ true
 unfolding either allowsWriting
 reading-only v = refl
 
 -- a view that is accepted for some mode keeps all but overlap's rule
 pub rules-valid : (mode : ℕ) (v : PaperView) → Rules mode v → Valid v
-rules-valid mode v r = record {
-  keeps = rules-accept 1 v (record {
-    displacement = r .displacement;
-    etype-paired = r .etype-paired;
-    filetype-paired = r .filetype-paired;
-    etype-entries = r .etype-entries;
-    filetype-entries = r .filetype-entries;
-    etype-extent = r .etype-extent;
-    filetype-extent = r .filetype-extent;
-    etype-allowed = r .etype-allowed;
-    filetype-allowed = r .filetype-allowed;
-    etype-ordered = r .etype-ordered;
-    filetype-ordered = r .filetype-ordered;
-    is-built = r .is-built;
-    holes = r .holes;
-    overlap = reading-only v;
-  });
-}
+rules-valid mode v r = record { keeps = rules-accept 1 v (for-mode mode 1 v r (reading-only v)) }
 
 pub accepted-valid : (mode : ℕ) (v : PaperView) → accepted mode v ≡ true → Valid v
 accepted-valid mode v h = rules-valid mode v (rules mode v h)
 
 -- and with overlap's rule it is accepted for any mode
 pub valid-clear : (mode : ℕ) (v : PaperView) → Valid v → clear v ≡ true → accepted mode v ≡ true
-valid-clear mode v k c =
-    let r = rules 1 v (k .keeps) in
-    rules-accept mode v (record {
-      displacement = r .displacement;
-      etype-paired = r .etype-paired;
-      filetype-paired = r .filetype-paired;
-      etype-entries = r .etype-entries;
-      filetype-entries = r .filetype-entries;
-      etype-extent = r .etype-extent;
-      filetype-extent = r .filetype-extent;
-      etype-allowed = r .etype-allowed;
-      filetype-allowed = r .filetype-allowed;
-      etype-ordered = r .etype-ordered;
-      filetype-ordered = r .filetype-ordered;
-      is-built = r .is-built;
-      holes = r .holes;
-      overlap = either-right (not (allowsWriting mode)) (clear v) c;
-    })
+valid-clear mode v k c = rules-accept mode v (for-mode 1 mode v (rules 1 v (k .keeps)) (either-right (not (allowsWriting mode)) (clear v) c))
 
 -- one that is accepted for writing keeps overlap's too
 pub writing-clear : (mode : ℕ) (v : PaperView) → accepted mode v ≡ true → allowsWriting mode ≡ true → clear v ≡ true
