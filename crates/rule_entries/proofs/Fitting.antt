@@ -1,5 +1,5 @@
 -- What the loops of this crate test at one index, and that no sum of theirs wraps.
-use Rattle.laws.proofs.Prelude.{ℕ, _+_, _-_, _≤_, _<_, _≡_, sym, ap, _∙_, Bool, true, false, not, List, arith, length, getD, leb, w64, Fits, le-leb, lt-leb, le-ltb, lt-ltb, not-true, not-false, nth, all, leastFalse, least-false-le, all-intro, Passed, passed-more, passed-stop, passed-end, passed-fails, passed-holds}
+use Rattle.laws.proofs.Prelude.{ℕ, _+_, _-_, _≤_, _<_, _≡_, sym, ap, _∙_, Bool, true, false, not, List, arith, length, getD, leb, w64, Fits, le-leb, lt-leb, le-ltb, lt-ltb, not-true, not-false, nth, all, leastFalse, least-false-le, Passed, passed-more, passed-stop, passed-end, passed-fails, passed-holds}
 use Rattle.view.specs.Parts.{inOrder, EntriesValid}
 use Rattle.rule_limits.specs.Parts.{entryFits}
 use Rattle.rule_entries.specs.Parts.{entryFitsAt, apartAt, apartIn, ListsReady}

@@ -1,8 +1,8 @@
 -- Keys put into a list: each at its place, and no sum or product wraps.
-use Rattle.laws.proofs.Prelude.{ℕ, _+_, _-_, _*_, _/_, _%_, _≤_, _<_, _≡_, refl, sym, ap, _∙_, Bool, true, List, arith, length, getD, take, getD-take, length-take-le, w64, Fits, mod-lt, mul-le-mul, zero-mul, nth, all, leastFalse, store, front, front-at, length-store, store-none, store-run, store-same, all-reaches, least-false-le, mul-le-mul-right, run-div, run-mod, run-below, runs-below, times-more}
+use Rattle.laws.proofs.Prelude.{ℕ, _+_, _*_, _%_, _≤_, _<_, _≡_, refl, sym, ap, _∙_, Bool, true, List, arith, length, getD, take, getD-take, length-take-le, w64, Fits, mod-lt, mul-le-mul, zero-mul, nth, all, leastFalse, store, front, front-at, length-store, store-none, store-run, store-same, all-reaches, least-false-le, mul-le-mul-right, run-div, run-mod, run-below, times-more}
 use Rattle.view.specs.declared.Numbers.{Numbers}
 use Rattle.view.specs.declared.View.{View}
-use Rattle.view.specs.Types.{paper, entries, widthAt, displacementAt, extentOf}
+use Rattle.view.specs.Types.{paper, entries, widthAt, displacementAt}
 use Rattle.view.specs.Parts.{entryClear, clear, viewWith}
 use Rattle.view.proofs.Paper.{paper-file-entries, paper-file-width, paper-file-displacement, paper-file-extent}
 use Rattle.rule_overlap.specs.Parts.{keyOf, keyAt, groupKey, keyClear, Keyed, KeysValid, EntriesReady, RecordReady}

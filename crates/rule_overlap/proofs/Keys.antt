@@ -1,8 +1,8 @@
 -- The overlap rule on keys is the rule on the entries that they are made of; and sorted keys keep it exactly if each ends before the next begins.
 -- The second rests on what a permutation leaves: a statement about all pairs of a list, if it does not depend on their order.
-use Rattle.laws.proofs.Prelude.{ℕ, _+_, _-_, _*_, _/_, _%_, _≤_, _<_, _≡_, refl, sym, ap, _∙_, Bool, true, false, List, ⊎-elim, arith, length, getD, leb, leb-true, le-leb, also, also-inv, also-true, either, either-inv, either-left, either-right, all, all-at, all-intro, all-same, leastFalse, least-false-same, nth, iff, lt-or-le, run-div, run-mod, InTurn, turn-later, turn-within, turn-lowest}
+use Rattle.laws.proofs.Prelude.{ℕ, _+_, _-_, _/_, _%_, _≤_, _<_, _≡_, sym, _∙_, Bool, true, List, ⊎-elim, arith, length, leb-true, le-leb, also-inv, also-true, either-inv, either-left, either-right, all, all-at, all-intro, all-same, leastFalse, least-false-same, nth, iff, lt-or-le, run-div, run-mod, InTurn, turn-later, turn-within, turn-lowest}
 use Rattle.view.specs.Parts.{clearOf, entryClear}
-use Rattle.sorting.specs.Parts.{Permutation, Rising, Sorted}
+use Rattle.sorting.specs.Parts.{Sorted}
 use Rattle.sorting.proofs.Permuted.{permuted-length, permuted-back, permuted-all, permuted-pairs, rising-at}
 use Rattle.rule_overlap.specs.Parts.{keyOf, keysApart, keyClear, keyEnds, keysFollow, KeysValid}
 

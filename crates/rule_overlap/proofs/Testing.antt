@@ -1,5 +1,5 @@
 -- What the loops of this crate test at one key, and that no sum of theirs wraps.
-use Rattle.laws.proofs.Prelude.{ℕ, _+_, _-_, _*_, _/_, _%_, _≤_, _<_, _≡_, refl, sym, ap, _∙_, Bool, true, false, not, List, arith, length, getD, leb, le-leb, lt-leb, w64, Fits, also, also-yes, also-no, either, either-yes, either-else, all, nth, Passed, passed-more, passed-fails, passed-holds, passed-end, leastFalse, not-true, not-false}
+use Rattle.laws.proofs.Prelude.{ℕ, _+_, _-_, _/_, _%_, _≤_, _<_, _≡_, refl, sym, _∙_, Bool, true, false, not, List, arith, length, getD, leb, le-leb, lt-leb, w64, Fits, also-yes, also-no, either-yes, either-else, nth, Passed, passed-fails, passed-holds, passed-end, leastFalse, not-true, not-false}
 use Rattle.view.specs.Parts.{clearOf}
 use Rattle.rule_overlap.specs.Parts.{endsBefore, keysApart, keyClear, keyEnds, keysFollow, KeysValid}
 

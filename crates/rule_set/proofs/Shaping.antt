@@ -1,5 +1,5 @@
 -- The checks from 7 on on the records: each function's refusal number follows its chain, and what it names is what the chain's number names.
-use Rattle.laws.proofs.Prelude.{ℕ, _+_, _-_, _*_, _/_, _%_, _^_, _≤_, _<_, _≡_, refl, sym, ap, _∙_, Bool, true, false, not, List, ⊎-elim, arith, div-add-mod', div-le-self, eq-zero-or-pos, zero-mul, times-more, mul-le-mul-right, length, take, w64, Fits, getD-take, length-take-le, eqb, ltb, eq-eqb, ne-eqb, lt-ltb, le-ltb, also, either, check, check-step, nth, all, leastFalse, least-false-le, least-false-same, either-left, either-right, either-no, lt-or-le, check-yes, check-no, check-zero, check-inv, lit<, also-true, upto}
+use Rattle.laws.proofs.Prelude.{ℕ, _+_, _-_, _*_, _/_, _%_, _^_, _≤_, _<_, _≡_, refl, sym, ap, _∙_, Bool, true, false, not, List, ⊎-elim, arith, div-add-mod', eq-zero-or-pos, zero-mul, mul-le-mul-right, length, take, w64, Fits, getD-take, length-take-le, eq-eqb, ne-eqb, lt-ltb, le-ltb, also, check, check-step, nth, all, leastFalse, least-false-le, least-false-same, either-left, either-right, either-no, lt-or-le, check-yes, check-no, check-zero, check-inv, lit<, also-true, upto}
 use Rattle.laws.proofs.Searching.{all-yes, all-no}
 use Rattle.view.specs.declared.Fault.{Fault}
 use Rattle.view.specs.declared.Named.{Named}
@@ -12,7 +12,7 @@ use Rattle.view.proofs.Telling.{fault-by}
 use Rattle.rule_entries.specs.Parts.{apartIn}
 use Rattle.rule_instances.specs.Parts.{holeFits}
 use Rattle.rule_groups.specs.declared.GroupFault.{GroupFault}
-use Rattle.rule_groups.specs.Parts.{firstGroupFault, groupMatchesAt, originAt, deciding, GroupsReady}
+use Rattle.rule_groups.specs.Parts.{firstGroupFault, groupMatchesAt, originAt, deciding}
 use Rattle.rule_set.specs.Parts.{tilesRefusal, tileNames, tilesFault, TilesReady, groupsRefusal, groupsNames, groupsFault, shapesRefusal, orderNames, shapeNames, shapesFault, ShapesReady}
 
 -- ---- order: n displacements d, of which r is the first below the one before it, or a number past the last

@@ -1,5 +1,5 @@
 -- Rules on the filetype, whose entries are the etype's shifted by each origin: what is tested on the record is what the paper asks of the lists.
-use Rattle.laws.proofs.Prelude.{ℕ, _+_, _-_, _*_, _/_, _%_, _≤_, _<_, _≡_, sym, ap, _∙_, true, ⊎-elim, arith, mod-lt, mul-mod-left, mul-div-cancel, add-zero, zero-div, zero-mod, leb, le-leb, leb-true, eq-eqb, lt-ltb, le-ltb, all, greatest, nth, iff, also-inv, also-true, lt-or-le, all-at, all-intro, run-below, run-div, run-mod, runs-below, times-more, greatest-above, greatest-one}
+use Rattle.laws.proofs.Prelude.{ℕ, _+_, _-_, _*_, _/_, _%_, _≤_, _<_, _≡_, sym, ap, _∙_, true, ⊎-elim, arith, mod-lt, zero-div, zero-mod, leb, le-leb, leb-true, lt-ltb, le-ltb, all, greatest, nth, iff, also-inv, also-true, lt-or-le, all-at, all-intro, run-below, run-div, run-mod, runs-below, times-more, greatest-above, greatest-one}
 use Rattle.view.specs.declared.View.{View}
 use Rattle.view.specs.Limits.{widthAllowed, entryDisplacementAllowed}
 use Rattle.view.specs.Types.{paper, entries, widthAt, displacementAt}

@@ -1,5 +1,5 @@
 -- What an accepted view keeps: the rules one by one, and the same as facts on numbers.
-use Rattle.laws.proofs.Prelude.{ℕ, _+_, _-_, _*_, _/_, _%_, _≤_, _<_, _≡_, refl, sym, ap, _∙_, true, not, ⊎-elim, arith, div-add-mod', le-of-mul-le-mul-right, mod-lt, eq-zero-or-pos, zero-mul, mul-mod-left, mul-div-cancel, add-zero, getD, ℤ, pos, negsuc, lit<, leb-true, le-leb, eqb-true, eq-eqb, either, check-inv, check-zero, also-true, also-inv, either-inv, either-right, within-inv, not-both, all-at, all-intro, leastFalse, least-false-le, ends-holds, run-below, runs-below}
+use Rattle.laws.proofs.Prelude.{ℕ, _+_, _*_, _≤_, _<_, _≡_, refl, ap, true, not, ⊎-elim, arith, le-of-mul-le-mul-right, eq-zero-or-pos, zero-mul, getD, ℤ, pos, negsuc, lit<, leb-true, eqb-true, eq-eqb, either, check-inv, check-zero, also-true, also-inv, either-inv, either-right, within-inv, not-both, all-at, run-below}
 use Rattle.view.specs.Limits.{widthAllowed, etypeEntriesAllowed, filetypeEntriesAllowed, entryDisplacementAllowed, extentAllowed, displacementAllowed}
 use Rattle.view.specs.Types.{PaperType, PaperView, entries, widthAt, displacementAt, extentOf, whole}
 use Rattle.view.specs.Rules.{paired, entryAllowed, entriesAllowed, typeOrdered, instances, origin, holeAllowed, viewHolesFit}

@@ -1,6 +1,6 @@
 -- The overlap rule: the definition that computes it has the property of order 3, and no view has the property without it; so has the entry that 10 names.
 -- On numbers first: two runs of bytes in tiles of f bytes clash exactly if the test of their places modulo f fails.
-use Rattle.laws.proofs.Prelude.{ℕ, zero, suc, _+_, _-_, _*_, _/_, _%_, _≤_, _<_, _≡_, refl, sym, ap, _∙_, subst, Bool, true, false, _⊎_, inl, inr, ⊎-elim, arith, div-add-mod', mod-lt, add-mul, mul-le-mul-right, one-mul, lt-ltb, le-ltb, leb, leb-true, le-leb, also, also-true, also-inv, either, either-inv, either-left, either-right, also-first, also-false, all, all-at, all-intro, all-fails, all-below, leastFalse, IsFirst, first-false, first-one, not-both, lt-or-le, eq-or-ne, times-more, not-true-false, not-false-true, iff, InTurn, turn-later, turn-within, turn-lowest}
+use Rattle.laws.proofs.Prelude.{ℕ, zero, suc, _+_, _-_, _*_, _/_, _%_, _≤_, _<_, _≡_, refl, sym, ap, subst, Bool, true, false, inl, inr, ⊎-elim, arith, div-add-mod', mod-lt, add-mul, mul-le-mul-right, one-mul, lt-ltb, le-ltb, leb, leb-true, le-leb, also, also-true, also-inv, either, either-inv, either-left, either-right, all-at, all-intro, all-fails, all-below, IsFirst, first-false, first-one, not-both, lt-or-le, times-more, not-true-false, not-false-true, iff, InTurn, turn-later, turn-within, turn-lowest}
 use Rattle.view.specs.Types.{PaperView, entries, widthAt, displacementAt, extentOf}
 use Rattle.view.specs.Rules.{DifferByMultiple, Clash, NoClash}
 use Rattle.view.specs.Named.{BreaksOverlap}

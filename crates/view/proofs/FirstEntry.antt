@@ -1,6 +1,6 @@
 -- What a refused set names is what order 1 says: for each refusal number but 10, which is in Clashing.antt, the definition that computes the entry has the property, and no other entry has it.
-use Rattle.laws.proofs.Prelude.{ℕ, _+_, _-_, _*_, _≤_, _<_, _≡_, _≢_, refl, sym, ap, _∙_, subst, Bool, true, false, _⊎_, inl, inr, ⊎-elim, arith, cond, le-of-mul-le-mul-right, mul-le-mul-right, eqb, leb, ltb, leb-true, leb-false, eqb-true, eq-eqb, ne-eqb, le-leb, lt-leb, lt-ltb, le-ltb, also, also-true, also-inv, also-first, also-false, all, leastFalse, IsFirst, not-both, eq-or-ne, lt-or-le, all-at, all-intro, all-below, all-fails, all-reaches, ends-first, least-false-le, least-false-keeps, least-false-breaks, least-false-is, first-one, first-false, first-found, not-false-true, not-true-false, times-more}
-use Rattle.view.specs.Types.{PaperType, PaperView, entries, widthAt, displacementAt, extentOf}
+use Rattle.laws.proofs.Prelude.{ℕ, _+_, _-_, _*_, _≤_, _<_, _≡_, refl, sym, ap, _∙_, true, false, inl, inr, ⊎-elim, arith, mul-le-mul-right, leb, leb-true, leb-false, eqb-true, eq-eqb, le-leb, lt-leb, lt-ltb, le-ltb, also-true, also-inv, also-first, also-false, leastFalse, IsFirst, not-both, eq-or-ne, lt-or-le, all-at, all-intro, all-below, all-fails, all-reaches, ends-first, least-false-le, least-false-keeps, first-one, first-false, first-found, not-false-true, not-true-false, times-more}
+use Rattle.view.specs.Types.{PaperType, PaperView, entries, widthAt, displacementAt}
 use Rattle.view.specs.Rules.{entryAllowed, entriesAllowed, typeOrdered, wholeGroups, instances, holeAllowed, viewHolesFit}
 use Rattle.view.specs.Named.{BreaksLimits, BreaksOrder, Differs, OriginBelow, BreaksHoles, BuiltBefore, FirstDiffering, FirstBelow}
 use Rattle.view.specs.Parts.{entryMatches, groupMatches, originAllowed, groupBuilt, decidingGroup, limitsEntry, orderEntry, differingEntry, belowEntry, holeNames, holeEntry}

@@ -1,12 +1,12 @@
 -- The laws on which demand 3 rests: in a view whose filetype has no bytes that clash, different pairs of offset and data byte lie at different bytes, and no entry is wider than F.
--- Data byte j of offset x is a byte of the filetype in tile x div K; two that lie at one byte of the file lie a multiple of F apart in the filetype.
+-- Data byte j of offset x is a byte of the filetype in tile x div K (Bytes.antt); two that lie at one byte of the file lie a multiple of F apart in the filetype.
 -- What stands above uses `distinct` and `narrow` alone: a new overlap rule proves these two again.
-use Rattle.laws.proofs.Prelude.{ℕ, _+_, _-_, _*_, _/_, _%_, _≤_, _<_, _≡_, _≢_, refl, sym, ap, _∙_, true, _⊎_, inl, inr, ⊎-elim, arith, div-add-mod', mod-lt, add-mul, mul-le-mul, mul-le-mul-right, times-more, one-mul, lt-or-le, eq-or-ne, run-div, run-mod, run-below, runs-below}
+use Rattle.laws.proofs.Prelude.{ℕ, _+_, _-_, _*_, _/_, _%_, _≤_, _<_, _≡_, sym, ap, _∙_, true, inl, inr, ⊎-elim, arith, div-add-mod', add-mul, mul-le-mul, mul-le-mul-right, times-more, one-mul, lt-or-le, eq-or-ne, run-mod, run-below}
 use Rattle.view.specs.Types.{PaperView, entries, widthAt, displacementAt, extentOf, whole}
-use Rattle.view.specs.Rules.{instances, origin, DifferByMultiple, Clash, NoClash}
+use Rattle.view.specs.Rules.{instances, DifferByMultiple, NoClash}
 use Rattle.view.specs.Acceptance.{viewRefusal, accepted, Valid}
 use Rattle.view.specs.Modes.{allowsWriting}
-use Rattle.view.specs.Places.{place, dataSize, packedBefore, entryOf, dataAt, byteOf}
+use Rattle.view.specs.Places.{dataSize, packedBefore, entryOf, byteOf}
 use Rattle.view.specs.Named.{BreaksOverlap}
 use Rattle.view.specs.Owners.{Belongs}
 use Rattle.view.specs.Overlap.{Shared, ExactRule}
@@ -14,44 +14,8 @@ use Rattle.view.specs.Parts.{Distinct, Narrow}
 use Rattle.view.proofs.Clashing.{Spaced, clear-is, clear-only, overlap-is, in-order-clear}
 use Rattle.view.proofs.Telling.{fails-10, valid-10}
 use Rattle.view.proofs.Accepted.{Facts, facts, accepted-valid, writing-clear, valid-clear, rules, spaced, instances-some, instances-few}
-use Rattle.view.proofs.Packing.{entry-below, entry-ends, entry-begins, entry-run, data-run, packed-part}
-
--- ---- data byte j of offset x as a byte of the filetype
-
-module _ (v : PaperView) (f : Facts v) (x j : ℕ) (l : j < dataSize v) where
-  -- its entry, and its index in the entry
-  inEntry : ℕ
-  inEntry = x % instances v * entries (v .etype) + entryOf (v .etype) j
-
-  inByte : ℕ
-  inByte = j - packedBefore (v .etype) (entryOf (v .etype) j)
-
-  of-etype : entryOf (v .etype) j < entries (v .etype)
-  unfolding dataSize
-  of-etype = entry-below (v .etype) j l
-
-  of-group : x % instances v < instances v
-  of-group = mod-lt x {m = instances v} (instances-some v f)
-
-  is-byte : (inEntry < entries (v .filetype)) × (inByte < widthAt (v .filetype) inEntry)
-  unfolding inEntry inByte dataSize
-  is-byte = (
-    omega (arith, run-below (instances v) (entries (v .etype)) (x % instances v) (entryOf (v .etype) j) of-group of-etype, f .groups),
-    omega (arith, f .group-width (x % instances v) (entryOf (v .etype) j) of-group of-etype, entry-ends (v .etype) j l, entry-begins (v .etype) j l),
-  )
-
-  lies-at : byteOf v x j ≡ whole (v .displacement) + x / instances v * extentOf (v .filetype) + (displacementAt (v .filetype) inEntry + inByte)
-  unfolding byteOf place dataAt inEntry inByte
-  lies-at = omega (arith, f .group-displacement (x % instances v) (entryOf (v .etype) j) of-group of-etype)
-
-  -- the group and the etype's entry, back from its entry
-  group-is : inEntry / entries (v .etype) ≡ x % instances v
-  unfolding inEntry
-  group-is = run-div (entries (v .etype)) (x % instances v) (entryOf (v .etype) j) of-etype
-
-  entry-is : inEntry % entries (v .etype) ≡ entryOf (v .etype) j
-  unfolding inEntry
-  entry-is = run-mod (entries (v .etype)) (x % instances v) (entryOf (v .etype) j) of-etype
+use Rattle.view.proofs.Packing.{entry-begins, entry-run}
+use Rattle.view.proofs.Bytes.{inEntry, inByte, is-byte, lies-at, group-is, entry-is, offsetAt, indexAt, at-group, at-entry, at-inside, at-index, at-lies}
 
 -- ---- different pairs, different bytes
 
@@ -71,18 +35,18 @@ same-tile f s t p e =
 
 module _ (v : PaperView) (f : Facts v) (n : NoClash v) where
   module _ (x y j k : ℕ) (lj : j < dataSize v) (lk : k < dataSize v) (e : byteOf v x j ≡ byteOf v y k) where
-    places-differ : DifferByMultiple (extentOf (v .filetype)) (displacementAt (v .filetype) (inEntry v f x j lj) + inByte v f x j lj) (displacementAt (v .filetype) (inEntry v f y k lk) + inByte v f y k lk)
+    places-differ : DifferByMultiple (extentOf (v .filetype)) (displacementAt (v .filetype) (inEntry v x j) + inByte v j) (displacementAt (v .filetype) (inEntry v y k) + inByte v k)
     places-differ = tiles-differ (extentOf (v .filetype)) (x / instances v) (y / instances v) _ _ (omega (arith, e, lies-at v f x j lj, lies-at v f y k lk))
 
-    same-byte : (inEntry v f x j lj ≡ inEntry v f y k lk) × (inByte v f x j lj ≡ inByte v f y k lk)
+    same-byte : (inEntry v x j ≡ inEntry v y k) × (inByte v j ≡ inByte v k)
     same-byte =
         ⊎-elim
-        (λ p. ⊎-elim (λ q. (p, q)) (λ q. absurd (clash (λ _. q))) (eq-or-ne (inByte v f x j lj) (inByte v f y k lk)))
+        (λ p. ⊎-elim (λ q. (p, q)) (λ q. absurd (clash (λ _. q))) (eq-or-ne (inByte v j) (inByte v k)))
         (λ p. absurd (clash (λ z _. p z)))
-        (eq-or-ne (inEntry v f x j lj) (inEntry v f y k lk))
+        (eq-or-ne (inEntry v x j) (inEntry v y k))
       where
-        clash : (inEntry v f x j lj ≡ inEntry v f y k lk → inByte v f x j lj ≡ inByte v f y k lk → ⊥) → ⊥
-        clash d = n .never (inEntry v f x j lj) (inByte v f x j lj) (inEntry v f y k lk) (inByte v f y k lk) (record { first = is-byte v f x j lj; second = is-byte v f y k lk; different = d; places = places-differ })
+        clash : (inEntry v x j ≡ inEntry v y k → inByte v j ≡ inByte v k → ⊥) → ⊥
+        clash d = n .never (inEntry v x j) (inByte v j) (inEntry v y k) (inByte v k) (record { first = is-byte v f x j lj; second = is-byte v f y k lk; different = d; places = places-differ })
 
     same-offset : x ≡ y
     same-offset =
@@ -130,50 +94,25 @@ module _ (mode : ℕ) (v : PaperView) (h : accepted mode v ≡ true) (w : allows
 
 -- ---- the rule is exact
 
--- byte a of entry i of the filetype, in tile t, as the data byte of a pair
 module _ (v : PaperView) (f : Facts v) (t i a : ℕ) (li : i < entries (v .filetype)) (la : a < widthAt (v .filetype) i) where
-  offsetAt : ℕ
-  offsetAt = t * instances v + i / entries (v .etype)
-
-  indexAt : ℕ
-  indexAt = packedBefore (v .etype) (i % entries (v .etype)) + a
-
-  at-group : i / entries (v .etype) < instances v
-  at-group = runs-below (instances v) (entries (v .etype)) i (f .some) (omega (arith, f .groups))
-
-  at-entry : i % entries (v .etype) < entries (v .etype)
-  at-entry = mod-lt i {m = entries (v .etype)} (f .some)
-
-  at-number : i / entries (v .etype) * entries (v .etype) + i % entries (v .etype) ≡ i
-  at-number = div-add-mod' i (entries (v .etype))
-
-  at-inside : a < widthAt (v .etype) (i % entries (v .etype))
-  at-inside = omega (arith, f .group-width (i / entries (v .etype)) (i % entries (v .etype)) at-group at-entry, ap (widthAt (v .filetype)) at-number)
-
-  at-lies : byteOf v offsetAt indexAt ≡ whole (v .displacement) + (t * extentOf (v .filetype) + (displacementAt (v .filetype) i + a))
-  unfolding byteOf place offsetAt indexAt
-  at-lies =
-      rw (run-div (instances v) t (i / entries (v .etype)) at-group, run-mod (instances v) t (i / entries (v .etype)) at-group, data-run (v .etype) (i % entries (v .etype)) a at-entry at-inside)
-      (omega (arith, f .group-displacement (i / entries (v .etype)) (i % entries (v .etype)) at-group at-entry, ap (displacementAt (v .filetype)) at-number))
-
   -- within 2^20 tiles its offset is below 2^32
-  at-belongs : t ≤ 1048576 → Belongs v (whole (v .displacement) + (t * extentOf (v .filetype) + (displacementAt (v .filetype) i + a))) offsetAt indexAt
-  unfolding offsetAt indexAt dataSize
+  at-belongs : t ≤ 1048576 → Belongs v (whole (v .displacement) + (t * extentOf (v .filetype) + (displacementAt (v .filetype) i + a))) (offsetAt v t i) (indexAt v i a)
+  unfolding offsetAt
   at-belongs h = record {
-    offset = omega (arith, at-group, instances-few v f, mul-le-mul {n₁ = t} {m₁ = instances v} {n₂ = 1048576} {m₂ = 64} h (instances-few v f));
-    index = omega (arith, at-inside, packed-part (v .etype) (i % entries (v .etype)) (entries (v .etype)) at-entry);
-    lies = at-lies;
+    offset = omega (arith, at-group v f i li, instances-few v f, mul-le-mul {n₁ = t} {m₁ = instances v} {n₂ = 1048576} {m₂ = 64} h (instances-few v f));
+    index = at-index v f i a li la;
+    lies = at-lies v f t i a li la;
   }
 
 -- different bytes are bytes of different pairs
 module _ (v : PaperView) (f : Facts v) (s t i a k b : ℕ) (li : i < entries (v .filetype)) (la : a < widthAt (v .filetype) i) (lk : k < entries (v .filetype)) (lb : b < widthAt (v .filetype) k) where
-  pairs-differ : (i ≡ k → a ≡ b → ⊥) → offsetAt v f s i a li la ≡ offsetAt v f t k b lk lb → indexAt v f s i a li la ≡ indexAt v f t k b lk lb → ⊥
+  pairs-differ : (i ≡ k → a ≡ b → ⊥) → offsetAt v s i ≡ offsetAt v t k → indexAt v i a ≡ indexAt v k b → ⊥
   unfolding offsetAt indexAt
   pairs-differ d p q =
-      let gi = at-group v f s i a li la in
-      let gk = at-group v f t k b lk lb in
+      let gi = at-group v f i li in
+      let gk = at-group v f k lk in
       let g : i / entries (v .etype) ≡ k / entries (v .etype) = sym (run-mod (instances v) s (i / entries (v .etype)) gi) ∙ ap (λ (z : ℕ). z % instances v) p ∙ run-mod (instances v) t (k / entries (v .etype)) gk in
-      let e : i % entries (v .etype) ≡ k % entries (v .etype) = sym (entry-run (v .etype) (i % entries (v .etype)) a (at-entry v f s i a li la) (at-inside v f s i a li la)) ∙ ap (entryOf (v .etype)) q ∙ entry-run (v .etype) (k % entries (v .etype)) b (at-entry v f t k b lk lb) (at-inside v f t k b lk lb) in
+      let e : i % entries (v .etype) ≡ k % entries (v .etype) = sym (entry-run (v .etype) (i % entries (v .etype)) a (at-entry v f i) (at-inside v f i a li la)) ∙ ap (entryOf (v .etype)) q ∙ entry-run (v .etype) (k % entries (v .etype)) b (at-entry v f k) (at-inside v f k b lk lb) in
       let m : i / entries (v .etype) * entries (v .etype) ≡ k / entries (v .etype) * entries (v .etype) = ap (λ (z : ℕ). z * entries (v .etype)) g in
       d (omega (arith, m, e, div-add-mod' i (entries (v .etype)), div-add-mod' k (entries (v .etype))))
       (omega (arith, q, ap (packedBefore (v .etype)) e))
@@ -191,10 +130,10 @@ module _ (v : PaperView) (f : Facts v) where
       let z : m * extentOf (v .filetype) + (displacementAt (v .filetype) k + b) ≡ 0 * extentOf (v .filetype) + (displacementAt (v .filetype) i + a) = omega (arith, e) in
       record {
         byte = whole (v .displacement) + (0 * extentOf (v .filetype) + (displacementAt (v .filetype) i + a));
-        x = offsetAt v f 0 i a (p .0) (p .1);
-        j = indexAt v f 0 i a (p .0) (p .1);
-        y = offsetAt v f m k b (q .0) (q .1);
-        k = indexAt v f m k b (q .0) (q .1);
+        x = offsetAt v 0 i;
+        j = indexAt v i a;
+        y = offsetAt v m k;
+        k = indexAt v k b;
         one = x;
         other = rw z at y;
         different = pairs-differ v f 0 m i a k b (p .0) (p .1) (q .0) (q .1) d;

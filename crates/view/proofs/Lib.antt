@@ -7,6 +7,7 @@ pub mod FirstEntry
 pub mod Telling
 pub mod Held
 pub mod Packing
+pub mod Bytes
 pub mod Injective
 pub mod Ends
 pub mod Owning

@@ -1,16 +1,16 @@
 -- The reverse lookup: what it finds is the pair that the byte belongs to, or there is none; and nothing else is.
-use Rattle.laws.proofs.Prelude.{ℕ, _+_, _-_, _*_, _/_, _%_, _≤_, _<_, _≡_, refl, sym, ap, _∙_, true, not, ⊎-elim, arith, div-add-mod', mod-lt, eq-or-lt-of-le, pos, lt-ltb, le-ltb, le-leb, ltb-true, leb-true, not-false, not-true, leastFalse, also-inv, also-true, lt-or-le, not-both, least-false-le, least-false-keeps, least-false-breaks, run-div, run-mod, run-below, runs-below}
+use Rattle.laws.proofs.Prelude.{ℕ, _+_, _-_, _*_, _/_, _%_, _≤_, _<_, _≡_, refl, sym, ap, _∙_, true, not, ⊎-elim, arith, div-add-mod', eq-or-lt-of-le, pos, lt-ltb, le-ltb, le-leb, ltb-true, leb-true, not-false, not-true, leastFalse, also-inv, also-true, lt-or-le, not-both, least-false-le, least-false-keeps, least-false-breaks, run-div, run-mod}
 use Rattle.view.specs.declared.Owner.{Owner}
 use Rattle.view.specs.declared.Owner.the-variants.{Pair, Nobody}
 use Rattle.view.specs.Types.{PaperView, entries, widthAt, displacementAt, extentOf, whole}
 use Rattle.view.specs.Rules.{instances}
 use Rattle.view.specs.Acceptance.{accepted}
 use Rattle.view.specs.Modes.{allowsWriting}
-use Rattle.view.specs.Places.{place, packedBefore, dataSize, entryOf, dataAt, byteOf}
+use Rattle.view.specs.Places.{entryOf, byteOf}
 use Rattle.view.specs.Parts.{Distinct, Narrow, entryStart, offsetIn, indexIn, hits, hitEntry, ownerOf}
 use Rattle.view.specs.Owners.{Belongs, OneOwner, ownerNumbers, Answers}
-use Rattle.view.proofs.Accepted.{Facts, facts, accepted-valid, instances-some}
-use Rattle.view.proofs.Packing.{entry-below, entry-ends, entry-begins, data-run, packed-part}
+use Rattle.view.proofs.Accepted.{Facts, facts, accepted-valid}
+use Rattle.view.proofs.Bytes.{inEntry, inByte, of-width, is-byte, lies-at, group-is, offsetAt, indexAt, at-index, at-lies}
 use Rattle.view.proofs.Injective.{distinct, narrow}
 
 -- a byte belongs to at most one pair
@@ -20,90 +20,57 @@ belongs-one v b x y j k d p q = d .same x y j k (p .index) (q .index) (p .lies �
 module _ (v : PaperView) (f : Facts v) (b : ℕ) where
   -- a byte that lies in entry i belongs to the pair that is named
   module _ (i : ℕ) (l : i < entries (v .filetype)) (h : hits v b i ≡ true) where
-    group : i / entries (v .etype) < instances v
-    group = runs-below (instances v) (entries (v .etype)) i (f .some) (omega (arith, f .groups))
-
-    entry : i % entries (v .etype) < entries (v .etype)
-    entry = mod-lt i {m = entries (v .etype)} (f .some)
-
-    whole-entry : i / entries (v .etype) * entries (v .etype) + i % entries (v .etype) ≡ i
-    whole-entry = div-add-mod' i (entries (v .etype))
-
     starts : entryStart v i ≤ b
     unfolding hits
     starts = leb-true _ _ (also-inv _ _ h .0)
 
-    inside : (b - entryStart v i) % extentOf (v .filetype) < widthAt (v .etype) (i % entries (v .etype))
+    inside : (b - entryStart v i) % extentOf (v .filetype) < widthAt (v .filetype) i
     unfolding hits
-    inside =
-        let w = f .group-width (i / entries (v .etype)) (i % entries (v .etype)) group entry in
-        let u : (b - entryStart v i) % extentOf (v .filetype) < widthAt (v .filetype) i = ltb-true _ _ (also-inv _ _ (also-inv _ _ h .1) .0) in
-        omega (arith, w, ap (widthAt (v .filetype)) whole-entry)
+    inside = ltb-true _ _ (also-inv _ _ (also-inv _ _ h .1) .0)
 
     allowed : offsetIn v b i < 4294967296
     unfolding hits
     allowed = ltb-true _ _ (also-inv _ _ (also-inv _ _ h .1) .1)
 
     found-lies : byteOf v (offsetIn v b i) (indexIn v b i) ≡ b
-    unfolding byteOf place offsetIn indexIn entryStart
+    unfolding offsetIn indexIn offsetAt indexAt entryStart
     found-lies =
-        let t = (b - (whole (v .displacement) + displacementAt (v .filetype) i)) / extentOf (v .filetype) in
-        let d = data-run (v .etype) (i % entries (v .etype)) ((b - (whole (v .displacement) + displacementAt (v .filetype) i)) % extentOf (v .filetype)) entry inside in
-        let g = f .group-displacement (i / entries (v .etype)) (i % entries (v .etype)) group entry in
         let m = div-add-mod' (b - (whole (v .displacement) + displacementAt (v .filetype) i)) (extentOf (v .filetype)) in
-        rw (run-div (instances v) t (i / entries (v .etype)) group, run-mod (instances v) t (i / entries (v .etype)) group, d)
-        (omega (arith, starts, ap (displacementAt (v .filetype)) whole-entry))
-
-    found-index : indexIn v b i < dataSize v
-    unfolding indexIn dataSize
-    found-index = omega (arith, inside, packed-part (v .etype) (i % entries (v .etype)) (entries (v .etype)) entry)
+        at-lies v f ((b - entryStart v i) / extentOf (v .filetype)) i ((b - entryStart v i) % extentOf (v .filetype)) l inside
+        ∙ omega (arith, starts, m)
 
     hit-belongs : Belongs v b (offsetIn v b i) (indexIn v b i)
-    hit-belongs = record { offset = allowed; index = found-index; lies = found-lies }
+    unfolding indexIn indexAt
+    hit-belongs = record { offset = allowed; index = at-index v f i ((b - entryStart v i) % extentOf (v .filetype)) l inside; lies = found-lies }
 
   -- a byte that belongs to a pair lies in an entry that is tried
   module _ (n : Narrow v) (x j : ℕ) (p : Belongs v b x j) where
-    in-etype : entryOf (v .etype) j < entries (v .etype)
-    unfolding dataSize
-    in-etype = entry-below (v .etype) j (p .index)
+    abbrev tried : ℕ
+    tried = inEntry v x j
 
-    in-group : x % instances v < instances v
-    in-group = mod-lt x {m = instances v} (instances-some v f)
-
-    tried : ℕ
-    tried = x % instances v * entries (v .etype) + entryOf (v .etype) j
+    abbrev rest : ℕ
+    rest = inByte v j
 
     tried-below : tried < entries (v .filetype)
-    unfolding tried
-    tried-below = omega (arith, run-below (instances v) (entries (v .etype)) (x % instances v) (entryOf (v .etype) j) in-group in-etype, f .groups)
-
-    rest : ℕ
-    rest = j - packedBefore (v .etype) (entryOf (v .etype) j)
-
-    rest-inside : rest < widthAt (v .etype) (entryOf (v .etype) j)
-    unfolding rest dataSize
-    rest-inside = omega (arith, entry-ends (v .etype) j (p .index), entry-begins (v .etype) j (p .index))
+    tried-below = is-byte v f x j (p .index) .0
 
     rest-below : rest < extentOf (v .filetype)
-    rest-below = omega (arith, rest-inside, n .width (entryOf (v .etype) j) in-etype)
+    rest-below = let o = of-width v f x j (p .index) in omega (arith, o .0, n .width (entryOf (v .etype) j) (o .1))
 
     distance : b - entryStart v tried ≡ x / instances v * extentOf (v .filetype) + rest
-    unfolding tried rest entryStart byteOf place dataAt
-    distance = omega (arith, p .lies, f .group-displacement (x % instances v) (entryOf (v .etype) j) in-group in-etype)
+    unfolding entryStart
+    distance = omega (arith, p .lies, lies-at v f x j (p .index))
 
     starts-before : entryStart v tried ≤ b
-    unfolding tried entryStart byteOf place dataAt
-    starts-before = omega (arith, p .lies, f .group-displacement (x % instances v) (entryOf (v .etype) j) in-group in-etype)
+    unfolding entryStart
+    starts-before = omega (arith, p .lies, lies-at v f x j (p .index))
 
     remainder : (b - entryStart v tried) % extentOf (v .filetype) < widthAt (v .filetype) tried
-    unfolding tried
-    remainder = rw (distance, run-mod (extentOf (v .filetype)) (x / instances v) rest rest-below, f .group-width (x % instances v) (entryOf (v .etype) j) in-group in-etype) rest-inside
+    remainder = rw (distance, run-mod (extentOf (v .filetype)) (x / instances v) rest rest-below) (is-byte v f x j (p .index) .1)
 
     same-offset : offsetIn v b tried ≡ x
-    unfolding offsetIn tried
-    same-offset =
-        rw (distance, run-div (extentOf (v .filetype)) (x / instances v) rest rest-below, run-div (entries (v .etype)) (x % instances v) (entryOf (v .etype) j) in-etype)
-        (div-add-mod' x (instances v))
+    unfolding offsetIn
+    same-offset = rw (distance, run-div (extentOf (v .filetype)) (x / instances v) rest rest-below, group-is v f x j (p .index)) (div-add-mod' x (instances v))
 
     belongs-hit : hits v b tried ≡ true
     unfolding hits

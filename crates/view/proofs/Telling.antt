@@ -1,6 +1,6 @@
 -- What a refused set names, by its refusal number: each number is given only where its check fails and the earlier ones pass, so the entry that is named has the property of that number.
 -- Rests on the theorems about single rules (FirstEntry.antt, Clashing.antt).
-use Rattle.laws.proofs.Prelude.{ℕ, _+_, _*_, _≤_, _<_, _≡_, _≢_, refl, sym, ap, _∙_, subst, Bool, true, false, not, cond, _⊎_, inl, inr, arith, eqb, ltb, ne-eqb, eq-eqb, lt-ltb, le-ltb, also, either, check, IsFirst, not-both, check-past, check-here, check-zero, also-inv, either-right}
+use Rattle.laws.proofs.Prelude.{ℕ, _≤_, _<_, _≡_, _≢_, refl, sym, ap, _∙_, subst, Bool, true, false, not, inl, inr, eqb, ne-eqb, eq-eqb, lt-ltb, le-ltb, also, either, check, IsFirst, not-both, check-past, check-here, check-zero, also-inv, either-right}
 use Rattle.view.specs.declared.Fault.{Fault}
 use Rattle.view.specs.declared.Named.{Named}
 use Rattle.view.specs.declared.Named.the-variants.{Nothing}

@@ -1,5 +1,5 @@
 -- `first_clash` makes the entries' keys, and searches them if a sorted copy has keys that clash. Assumes nothing.
-use Rattle.laws.proofs.Prelude.{needs, prefix, upto}
+use Rattle.laws.proofs.Prelude.{needs}
 use Rattle.rule_overlap.proofs.Filling.{list-keyed, list-long, list-valid, list-none, list-first}
 use Rattle.rule_overlap.proofs.first_clash.Statement.{statement}
 use Rattle.rule_overlap.proofs.first_clash.Tie as tie

@@ -1,5 +1,5 @@
 -- `keys_follow` passes the keys in order and leaves at the first that reaches past the next one's beginning. Assumes nothing.
-use Rattle.laws.proofs.Prelude.{_-_, _≤_, _<_, _≡_, needs, length, Passed, passed-more, passed-none}
+use Rattle.laws.proofs.Prelude.{_-_, _<_, _≡_, needs, length, Passed, passed-more, passed-none}
 use Rattle.rule_overlap.specs.Parts.{keyEnds, KeysValid}
 use Rattle.rule_overlap.proofs.Testing.{keys-some, end-before, end-last, tile-fits, key-ends, key-reaches, follow-fails, follow-last}
 use Rattle.rule_overlap.proofs.keys_follow.Statement.{statement}

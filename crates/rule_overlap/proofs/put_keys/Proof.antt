@@ -1,5 +1,5 @@
 -- `put_keys` stores the key of each entry at its place. Assumes nothing.
-use Rattle.laws.proofs.Prelude.{_+_, _-_, _≤_, _≡_, refl, arith, needs, length, length-set, set-long, store, store-none, store-more, store-end}
+use Rattle.laws.proofs.Prelude.{_+_, _-_, _≤_, _≡_, needs, length, set-long, store, store-none, store-more, store-end}
 use Rattle.rule_overlap.specs.Parts.{keyAt, Keyed}
 use Rattle.rule_overlap.proofs.Filling.{read-in, sum-fits, product-fits, key-fits, place-fits, place-in, key-value, extent-some}
 use Rattle.rule_overlap.proofs.put_keys.Statement.{statement}
