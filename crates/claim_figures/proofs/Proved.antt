@@ -2,7 +2,7 @@
 use Rattle.laws.proofs.Prelude.{refl, also, either, within, check, granted, leastFalse, all, greatest, total, tabulate, store}
 use Rattle.view.specs.Limits.{widthAllowed, etypeEntriesAllowed, filetypeEntriesAllowed, entryDisplacementAllowed, extentAllowed, displacementAllowed, offsetAllowed, pointerAllowed, fileAllowed}
 use Rattle.view.specs.Types.{whole, entries, widthAt, displacementAt, extentOf, paper}
-use Rattle.view.specs.Parts.{defaultView, entryMatches, groupMatches, originAllowed, groupBuilt, decidingGroup, limitsEntry, orderEntry, ofBoth, differingEntry, belowEntry, holeNames, holeEntry, clearOf, entryClear, clear, overlapEntry, namedBy, recordOf, entryStart, offsetIn, indexIn, hits, hitEntry, ownerOf, endFrom, endOfFile, ordered, holesFit}
+use Rattle.view.specs.Parts.{defaultView, entryMatches, groupMatches, originAllowed, groupBuilt, decidingGroup, limitsEntry, orderEntry, ofBoth, differingEntry, belowEntry, holeNames, holeEntry, endsBefore, clearOf, entryClear, clear, overlapEntry, namedBy, recordOf, entryStart, offsetIn, indexIn, hits, hitEntry, ownerOf, endFrom, endOfFile, ordered, holesFit}
 use Rattle.view.specs.Rules.{nativeName, isNative, paired, entryAllowed, entriesAllowed, typeOrdered, wholeGroups, instances, origin, hole, holeAllowed, viewHolesFit}
 use Rattle.view.specs.Acceptance.{viewRefusal, setRefusal, accepted}
 use Rattle.view.specs.Modes.{modeAllowed, allowsReading, allowsWriting}
@@ -19,7 +19,7 @@ use Rattle.claim_figures.specs.Table.{Figures}
 use Rattle.claim_figures.specs.LongFiles.{LongFiles}
 
 proved : Figures × LongFiles
-unfolding also either within check granted leastFalse all greatest total tabulate store widthAllowed etypeEntriesAllowed filetypeEntriesAllowed entryDisplacementAllowed extentAllowed displacementAllowed offsetAllowed pointerAllowed fileAllowed whole entries widthAt displacementAt extentOf paper defaultView nativeName isNative paired entryAllowed entriesAllowed ordered typeOrdered instances wholeGroups origin entryMatches groupMatches originAllowed groupBuilt decidingGroup limitsEntry orderEntry ofBoth differingEntry belowEntry hole holesFit holeAllowed viewHolesFit holeNames holeEntry clearOf entryClear clear overlapEntry namedBy modeAllowed allowsReading allowsWriting viewRefusal setRefusal accepted recordOf place packedBefore dataSize entryOf dataAt byteOf entryStart offsetIn indexIn hits hitEntry ownerOf ownerNumbers endFrom endOfFile fileByte inFile moved readInto writeEnd newSize written freshHandle modeGot handleValid fileValid withPointer withView withSize openRefusal setViewRefusal byteOffsetRefusal reverseRefusal endRefusal seekTarget targetAllowed seekRefusal accessAllowed accessRefusal readRefusal writeRefusal openAnswer setViewAnswer byteOffsetAnswer reverseAnswer endAnswer seekAnswer readCount atPointer readAtAnswer writeAtAnswer writtenFile
+unfolding also either within check granted leastFalse all greatest total tabulate store widthAllowed etypeEntriesAllowed filetypeEntriesAllowed entryDisplacementAllowed extentAllowed displacementAllowed offsetAllowed pointerAllowed fileAllowed whole entries widthAt displacementAt extentOf paper defaultView nativeName isNative paired entryAllowed entriesAllowed ordered typeOrdered instances wholeGroups origin entryMatches groupMatches originAllowed groupBuilt decidingGroup limitsEntry orderEntry ofBoth differingEntry belowEntry hole holesFit holeAllowed viewHolesFit holeNames holeEntry endsBefore clearOf entryClear clear overlapEntry namedBy modeAllowed allowsReading allowsWriting viewRefusal setRefusal accepted recordOf place packedBefore dataSize entryOf dataAt byteOf entryStart offsetIn indexIn hits hitEntry ownerOf ownerNumbers endFrom endOfFile fileByte inFile moved readInto writeEnd newSize written freshHandle modeGot handleValid fileValid withPointer withView withSize openRefusal setViewRefusal byteOffsetRefusal reverseRefusal endRefusal seekTarget targetAllowed seekRefusal accessAllowed accessRefusal readRefusal writeRefusal openAnswer setViewAnswer byteOffsetAnswer reverseAnswer endAnswer seekAnswer readCount atPointer readAtAnswer writeAtAnswer writtenFile
 proved = (
   record {
     p1-set = refl;

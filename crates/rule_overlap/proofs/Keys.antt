@@ -1,7 +1,7 @@
 -- The overlap rule on keys is the rule on the entries that they are made of; and sorted keys keep it exactly if each ends before the next begins.
 -- The second rests on what a permutation leaves: a statement about all pairs of a list, if it does not depend on their order.
 use Rattle.laws.proofs.Prelude.{ℕ, _+_, _-_, _/_, _%_, _≤_, _<_, _≡_, sym, _∙_, Bool, true, List, ⊎-elim, arith, length, leb-true, le-leb, also-inv, also-true, either-inv, either-left, either-right, all, all-at, all-intro, all-same, leastFalse, least-false-same, nth, iff, lt-or-le, run-div, run-mod, InTurn, turn-later, turn-within, turn-lowest}
-use Rattle.view.specs.Parts.{clearOf, entryClear}
+use Rattle.view.specs.Parts.{endsBefore, clearOf, entryClear}
 use Rattle.sorting.specs.Parts.{Sorted}
 use Rattle.sorting.proofs.Permuted.{permuted-length, permuted-back, permuted-all, permuted-pairs, rising-at}
 use Rattle.rule_overlap.specs.Parts.{keyOf, keysApart, keyClear, keyEnds, keysFollow, KeysValid}
@@ -34,12 +34,12 @@ module _ (keys : List ℕ) (w d : ℕ → ℕ) (f n : ℕ) (is : (i : ℕ) → i
 -- ---- sorted keys
 
 apart-back : (f x y : ℕ) → keysApart f x y ≡ true → keysApart f y x ≡ true
-unfolding keysApart clearOf
+unfolding keysApart clearOf endsBefore
 apart-back f x y h = ⊎-elim (λ e. either-right _ _ e) (λ e. either-left _ _ e) (either-inv _ _ h)
 
 -- of two keys that are apart the smaller ends before the other begins
 in-order : (f x y : ℕ) → x ≤ y → 0 < y % 16 → keysApart f x y ≡ true → (x / 16 + x % 16 ≤ y / 16) × (y / 16 + y % 16 ≤ x / 16 + f)
-unfolding keysApart clearOf
+unfolding keysApart clearOf endsBefore
 in-order f x y l s h =
     ⊎-elim
     (λ e. let g = also-inv _ _ e in (leb-true _ _ (g .0), leb-true _ _ (g .1)))
@@ -47,7 +47,7 @@ in-order f x y l s h =
     (either-inv _ _ h)
 
 in-order-apart : (f x y : ℕ) → x / 16 + x % 16 ≤ y / 16 → y / 16 + y % 16 ≤ x / 16 + f → keysApart f x y ≡ true
-unfolding keysApart clearOf
+unfolding keysApart clearOf endsBefore
 in-order-apart f x y a b = either-left _ _ (also-true (le-leb _ _ a) (le-leb _ _ b))
 
 module _ (f : ℕ) (a : List ℕ) where

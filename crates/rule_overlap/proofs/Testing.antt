@@ -1,7 +1,7 @@
 -- What the loops of this crate test at one key, and that no sum of theirs wraps.
 use Rattle.laws.proofs.Prelude.{ℕ, _+_, _-_, _/_, _%_, _≤_, _<_, _≡_, refl, sym, _∙_, Bool, true, false, not, List, arith, length, getD, leb, le-leb, lt-leb, w64, Fits, also-yes, also-no, either-yes, either-else, nth, Passed, passed-fails, passed-holds, passed-end, leastFalse, not-true, not-false}
-use Rattle.view.specs.Parts.{clearOf}
-use Rattle.rule_overlap.specs.Parts.{endsBefore, keysApart, keyClear, keyEnds, keysFollow, KeysValid}
+use Rattle.view.specs.Parts.{endsBefore, clearOf}
+use Rattle.rule_overlap.specs.Parts.{keysApart, keyClear, keyEnds, keysFollow, KeysValid}
 
 -- ---- two keys
 
@@ -16,11 +16,11 @@ module _ (f r w s x : ℕ) where
 
 module _ (f a b : ℕ) (t : Bool) (e : t ≡ endsBefore f (a / 16) (a % 16) (b / 16) (b % 16)) where
   pub apart-yes : t ≡ true → true ≡ keysApart f a b
-  unfolding keysApart clearOf endsBefore
+  unfolding keysApart clearOf
   apart-yes h = either-yes _ _ (sym e ∙ h)
 
   pub apart-else : t ≡ false → (u : Bool) → u ≡ endsBefore f (b / 16) (b % 16) (a / 16) (a % 16) → u ≡ keysApart f a b
-  unfolding keysApart clearOf endsBefore
+  unfolding keysApart clearOf
   apart-else h u g = either-else _ _ _ (sym e ∙ h) g
 
 -- ---- a key against the earlier ones

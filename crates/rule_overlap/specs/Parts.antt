@@ -23,10 +23,6 @@ keyAt ws ds shift f i = keyOf f (shift + nth ds i) (nth ws i)
 unfoldable pub groupKey : List ℕ → List ℕ → List ℕ → ℕ → ℕ → ℕ → ℕ
 groupKey ws ds ps n f i = keyAt ws ds (nth ps (i / n)) f (i % n)
 
--- w bytes at r end at or before x bytes at s begin, and those before the next tile's first
-unfoldable pub endsBefore : ℕ → ℕ → ℕ → ℕ → ℕ → Bool
-endsBefore f r w s x = also (leb (r + w) s) (leb (s + x) (r + f))
-
 -- no bytes of two keys clash
 unfoldable pub keysApart : ℕ → ℕ → ℕ → Bool
 keysApart f x y = clearOf f (x / 16) (x % 16) (y / 16) (y % 16)

@@ -5,7 +5,7 @@ use Rattle.view.specs.Types.{PaperView, entries, widthAt, displacementAt
 use Rattle.view.specs.Rules.{DifferByMultiple, Clash, NoClash}
 use Rattle.view.specs.Named.{BreaksOverlap}
 use Rattle.view.specs.Overlap.{InOrder}
-use Rattle.view.specs.Parts.{clearOf, entryClear, clear, overlapEntry, nextBegins, entryApart, apart}
+use Rattle.view.specs.Parts.{endsBefore, clearOf, entryClear, clear, overlapEntry, nextBegins, entryApart, apart}
 
 -- ---- multiples of f
 
@@ -38,7 +38,7 @@ module _ (f p w q x : ℕ) where
 
 module _ (f p w q x : ℕ) where
   apart-in : clearOf f (p % f) w (q % f) x ≡ true → (a b s t : ℕ) → a < w → b < x → s * f + (p % f + a) ≡ t * f + (q % f + b) → ⊥
-  unfolding clearOf
+  unfolding clearOf endsBefore
   apart-in h a b s t la lb e =
       ⊎-elim (λ c. let d = also-inv _ _ c in ends-first f p w q x (d .0) (d .1) a b s t la lb e)
       (λ c. let d = also-inv _ _ c in ends-first f q x p w (d .0) (d .1) b a t s lb la (sym e))
@@ -98,7 +98,7 @@ either-fails a b h = (not-true-false a (λ t. not-both (either-left a b t) h), n
 
 module _ (f p w q x : ℕ) (some : 0 < f) (sw : 0 < w) (sx : 0 < x) where
   clash-found : clearOf f (p % f) w (q % f) x ≡ false → Meeting f p w q x
-  unfolding clearOf
+  unfolding clearOf endsBefore
   clash-found h =
       let g = either-fails _ _ h in
       ⊎-elim (λ l. meeting-sym f q x p w (meets-after f q x p w some sx sw (omega arith) (g .1)))

@@ -84,9 +84,13 @@ entryApart v i = leb (displacementAt (v .filetype) i + widthAt (v .filetype) i) 
 unfoldable pub apart : PaperView → Bool
 apart v = all (entryApart v) (entries (v .filetype))
 
--- in tiles of f bytes, no byte of w bytes at r of a tile clashes with one of x bytes at s: of the two the one ends at or before the other begins, and the other before the next tile's first
+-- in a tile of f bytes, w bytes at r end at or before x bytes at s begin, and these before the first ones of the next tile
+unfoldable pub endsBefore : ℕ → ℕ → ℕ → ℕ → ℕ → Bool
+endsBefore f r w s x = also (leb (r + w) s) (leb (s + x) (r + f))
+
+-- so no byte of the one clashes with one of the other, whichever comes first
 unfoldable pub clearOf : ℕ → ℕ → ℕ → ℕ → ℕ → Bool
-clearOf f r w s x = either (also (leb (r + w) s) (leb (s + x) (r + f))) (also (leb (s + x) r) (leb (r + w) (s + f)))
+clearOf f r w s x = either (endsBefore f r w s x) (endsBefore f s x r w)
 
 -- of entries with widths w and displacements d, entry i has no byte that clashes with itself or an earlier entry
 unfoldable pub entryClear : (ℕ → ℕ) → (ℕ → ℕ) → ℕ → ℕ → Bool
