@@ -1,5 +1,6 @@
 """The fixed script: document 01's figures, its six errors, both ends of each limit in every call that tests it, the orders of checks,
-the types and entries that refused sets name by document 02's order 1, and the views whose tiles interlace by its order 3.
+the types and entries that refused sets name by document 02's order 1, the views whose tiles interlace by its order 3, and the types built
+from recipes by its order 4.
 
 Each row states a record with what the two documents say of its line; `faults` compares that with the model's lines.
 """
@@ -9,7 +10,8 @@ from dataclasses import replace
 from entries import ETYPE, FILETYPE, MEGA, NAMED, changed, spread
 from interlaced import INTERLACED, P12
 from model import Body, checksum, run
-from script_rows import BYTES, READ_ONLY, SET, WRITE_ONLY, Script, every_call, handle_sum, made
+from recipe_rows import RECIPES
+from script_rows import BYTES, NAMING, READ_ONLY, RECIPE, SET, SET_FROM_RECIPES, WRITE_ONLY, Script, every_call, handle_sum, made
 from scripts import (ALL_ONES, LARGEST, LINE, SMALLEST, Request, Shape, decode, end, field, file_record, forged, give_back, in_a_row,
                      new_file, one_changed, open_handle, place, read_at, read_here, record, reverse, seek, words, write_at, write_here)
 
@@ -1203,13 +1205,13 @@ SECTIONS = (p1_to_p3, p4_and_p5, p6_and_p7, p6_for_writing, p8, p9, p10, p11_and
             garbage, place_offsets, the_largest_views, offsets_at_the_limits, ends_of_file, seeks, reads_at_an_offset, read_sizes,
             reads_past_the_last_entry, reads_at_the_pointer, two_handles_on_one_file, writes_at_an_offset, write_growth, write_long_gap,
             write_gaps, write_lengths, write_orders, two_writes, writes_at_the_pointer, writes_by_mode, writes_by_one_handle,
-            lookups_of_every_byte, lookups_at_the_limits, giving_back, *INTERLACED, write_pairs, pairs, bodies)
+            lookups_of_every_byte, lookups_at_the_limits, giving_back, *INTERLACED, *RECIPES, write_pairs, pairs, bodies)
 CUT = record(38, 1, 0)[:-1]  # the last record lacks a byte
 
 
-def rows():
+def rows(sections=SECTIONS):
     s = Script()
-    for section in SECTIONS:
+    for section in sections:
         section(s)
     return s.rows
 
@@ -1227,16 +1229,20 @@ REFUSED_OPEN = {"pointer": 0, "view": handle_sum(0, BYTES)}  # what each slot ha
 def stays(before, handle, numbers):
     """What a line must have whatever its row states; `before` is the line before, `handle` what the slot has.
 
-    A refusal has no other number and leaves the handle; a set, granted or refused, has none but the type and the entry, a and b, which
-    its row states. Only a granted write changes a file, only open and a granted set the mode and the view, and only these, seeks and the
-    accesses at the pointer the pointer."""
+    A refusal has no other number and leaves the handle; a set or a recipe, granted or refused, has none but those that its row states. Only
+    a granted write changes a file, only open and a granted set the mode and the view, and only these, seeks and the accesses at the
+    pointer the pointer. A recipe has no handle."""
     tag, refused = numbers["tag"], numbers["refusal"] != 0
-    kept = {name: 0 for name in OTHERS if tag != SET or name not in ("a", "b")} if refused or tag == SET else {}
+    kept = {name: 0 for name in OTHERS if name not in NAMING.get(tag, ())} if refused or tag in NAMING else {}
     if tag not in (32, 33) and (refused or tag not in (43, 44)):
         kept |= {name: before[name] for name in FILES}
-    if tag > 35 and (refused or tag != SET):
+    if tag == RECIPE:
+        return kept | {"pointer": 0, "view": 0, "lent3": 0, "lent4": 0}
+    if tag == SET_FROM_RECIPES:
+        kept |= {f"lent{i}": 0 for i in range(1, 5)}
+    if tag > 35 and (refused or tag not in (SET, SET_FROM_RECIPES)):
         kept["view"] = handle["view"]
-    if tag > 35 and (refused or tag not in (SET, 40, 42, 44)):
+    if tag > 35 and (refused or tag not in (SET, 40, 42, 44, SET_FROM_RECIPES)):
         kept["pointer"] = handle["pointer"]
     return kept
 
@@ -1255,7 +1261,7 @@ def wrong(rows, lines):
         if found:
             yield row, numbers, found
         before = numbers
-        if numbers["tag"] not in (32, 33):
+        if numbers["tag"] not in (32, 33, RECIPE):
             handles[slot] = numbers
 
 

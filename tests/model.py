@@ -1,11 +1,14 @@
-"""The second program: document 01's rules with document 02's orders 1 and 3 in plain Python, and the lines of docs/conformance.md.
+"""The second program: document 01's rules with document 02's orders 1, 3 and 4 in plain Python, and the lines of docs/conformance.md.
 
 It is written from these papers alone, without a look at the library, and is to be read against them:
-it is slow wherever that is plainer. `Rules` holds document 01 with these orders, `Driver` the script, `run` makes the lines.
+it is slow wherever that is plainer. `Rules` holds document 01 with these orders, order 4 by recipes.py, `Driver` the script, `run` makes
+the lines.
 """
 
 from dataclasses import dataclass, replace
 from functools import lru_cache
+
+from recipes import Recipes, signed
 
 ETYPE_PLACES = 8
 ORIGIN_PLACES = 64
@@ -79,7 +82,7 @@ class Fault:
 
 @dataclass(frozen=True)
 class Answer:
-    handle: Handle
+    handle: Handle  # None for a recipe, which has none
     refusal: int = 0
     count: int = 0
     numbers: tuple = ()
@@ -101,8 +104,8 @@ DEFAULT_VIEW = view_of(0, BYTE, BYTE, (0,))
 REFUSED_HANDLE = Handle(0, 0, DEFAULT_VIEW)
 
 
-class Rules:
-    """Document 01 with the orders 1 and 3. A handle comes in and goes back as a value; lent lists and buffers are changed in place."""
+class Rules(Recipes):
+    """Document 01 with the orders 1, 3 and 4. A handle comes in and goes back as a value; lent lists and buffers are changed in place."""
 
     # When a view is accepted. Of a rule that a list of entries can break there is a method that gives all the faults in the order in
     # which they are to be found; a set is refused with the first one.
@@ -277,6 +280,17 @@ class Rules:
         view = view_of(displacement, etype, filetype, self.origins(etype, filetype))
         return Answer(replace(handle, pointer=0, view=view))
 
+    def set_from_recipes(self, handle, displacement, etype, filetype, representation):
+        """A recipe is its steps and its items. The first refusal of the three calls is given."""
+        types = []
+        for steps, items in (etype, filetype):
+            widths, displacements = [0] * MOST_ENTRIES, [0] * MOST_ENTRIES
+            flat = self.flatten(steps, items, widths, displacements)
+            if flat.refusal:
+                return Answer(handle, flat.refusal)
+            types.append(Type(tuple(widths[:flat.entries]), tuple(displacements[:flat.entries]), flat.extent))
+        return self.set(handle, displacement, *types, representation)
+
     def give_back(self, handle, lists):
         if not self.handle_allowed(handle):
             return Answer(handle, 1)
@@ -392,10 +406,10 @@ class Rules:
 # The script
 
 SLOTS, FILES = 4, 2
-LONGEST_LIST, LONGEST_BUFFER, LONGEST_FILE = 300, 4096, 65536
+LONGEST_LIST, LONGEST_BUFFER, LONGEST_FILE, LONGEST_RECIPE = 300, 4096, 65536, 1000
 MOST_RECORDS = 1_000_000
 CHECKSUM_MODULUS = 4_294_967_291
-CALLS = range(35, 46)
+CALLS = range(35, 46)  # those of document 01
 
 
 class Body:
@@ -415,10 +429,6 @@ class Body:
 
     def after(self, count):
         return self.data[8 * count:]
-
-
-def signed(number):
-    return number - 2**64 if number >= 2**63 else number
 
 
 def checksum(numbers):
@@ -456,15 +466,52 @@ class SetRecord:
     representation: bytes
 
 
+def counted_lists(body, first, number, longest):
+    """So many lists, whose counts stand in a row from this number on, and after the counts the lists; and what number follows them."""
+    lists, following = [], first + number
+    for count in body.numbers(first, number):
+        lists.append(body.numbers(following, min(count, longest)))
+        following += len(lists[-1])
+    return lists, following
+
+
 def set_record(body):
-    counts = [min(count, LONGEST_LIST) for count in body.numbers(4, 4)]
-    lists, first = [], 8
-    for count in counts:
-        lists.append(body.numbers(first, count))
-        first += count
+    lists, first = counted_lists(body, 4, 4, LONGEST_LIST)
     etype = Type(lists[0], tuple(map(signed, lists[1])), body.signed(2))
     filetype = Type(lists[2], tuple(map(signed, lists[3])), body.signed(3))
     return SetRecord(body.signed(1), etype, filetype, body.after(first))
+
+
+@dataclass(frozen=True)
+class RecipeRecord:
+    """The body of a recipe, the lent lists made."""
+
+    steps: tuple
+    items: tuple
+    widths: list
+    displacements: list
+
+
+def recipe_record(body):
+    fill = body.number(2) % 2**31
+    lent = [[fill] * min(length, LONGEST_LIST) for length in body.numbers(0, 2)]
+    lists, _ = counted_lists(body, 3, 2, LONGEST_RECIPE)
+    return RecipeRecord(*lists, *lent)
+
+
+@dataclass(frozen=True)
+class RecipesRecord:
+    """The body of a set from recipes; of each recipe the steps and the items."""
+
+    displacement: int
+    etype: tuple
+    filetype: tuple
+    representation: bytes
+
+
+def recipes_record(body):
+    lists, first = counted_lists(body, 2, 4, LONGEST_RECIPE)
+    return RecipesRecord(body.signed(1), tuple(lists[:2]), tuple(lists[2:]), body.after(first))
 
 
 @dataclass(frozen=True)
@@ -504,7 +551,7 @@ class Driver:
         self.files = [File(b"", 0)] * FILES
         self.records = {32: self.new_file, 33: self.file_record, 34: self.forged_handle, 35: self.open, 36: self.set,
                         37: self.give_back, 38: self.place, 39: self.end, 40: self.seek, 41: self.read_at, 42: self.read_here,
-                        43: self.write_at, 44: self.write_here, 45: self.reverse}
+                        43: self.write_at, 44: self.write_here, 45: self.reverse, 46: self.recipe, 47: self.set_from_recipes}
 
     def handle(self, body):
         return self.slots[body.number(0) % SLOTS]
@@ -574,12 +621,22 @@ class Driver:
     def reverse(self, body):
         return self.rules.reverse(self.handle(body), body.number(1)), []
 
+    def recipe(self, body):
+        new = recipe_record(body)
+        flat = self.rules.flatten(new.steps, new.items, new.widths, new.displacements)
+        return Answer(None, flat.refusal, numbers=flat.numbers()), [new.widths, new.displacements]
+
+    def set_from_recipes(self, body):
+        new = recipes_record(body)
+        return self.rules.set_from_recipes(self.handle(body), new.displacement, new.etype, new.filetype, new.representation), []
+
     def line(self, tag, answer, lent):
         if answer is None:
             numbers = [tag] + [0] * 9
         else:
-            others = padded(answer.numbers, 5)
-            numbers = [tag, answer.refusal, answer.count, *others, answer.handle.pointer, handle_checksum(answer.handle)]
+            handle = answer.handle
+            pointer, view = (handle.pointer, handle_checksum(handle)) if handle else (0, 0)
+            numbers = [tag, answer.refusal, answer.count, *padded(answer.numbers, 5), pointer, view]
         for file in self.files:
             numbers += [file.size, file_checksum(file.data)]
         return " ".join(map(str, (*numbers, *padded([checksum(one) for one in lent], 4))))
@@ -587,7 +644,7 @@ class Driver:
     def step(self, place, tag, body):
         files = tuple(self.files)
         answer, lent = self.records[tag](body)
-        if answer is not None:
+        if answer is not None and answer.handle is not None:
             self.slots[body.number(0) % SLOTS] = answer.handle
         if answer is not None and answer.file is not None:
             self.files[body.number(1) % FILES] = answer.file

@@ -6,7 +6,8 @@ from model import checksum, file_bytes
 from scripts import (Shape, end, file_record, fill_up, give_back, open_handle, place, read_at, read_here, reverse, seek, set_view, words,
                      write_at, write_here)
 
-SET = 36  # the tag of a set
+SET, RECIPE, SET_FROM_RECIPES = 36, 46, 47  # tags
+NAMING = {SET: ("a", "b"), SET_FROM_RECIPES: ("a", "b"), RECIPE: ("a", "b", "c", "d")}  # what every row of such a record states
 BYTES = Shape((1,), (0,), 1, (0,), 1)  # the default view
 
 
@@ -33,8 +34,9 @@ class Script:
         self.rows, self.section = [], ""
 
     def add(self, record, refusal=0, **expected):
-        """A row of a set states the type and the entry that it names, 0 and 0 unless they are given."""
-        named = {"a": 0, "b": 0} if record[0] == SET else {}
+        """A row of a set states the type and the entry that it names, one of a recipe the entry count, the extent and the step at fault;
+        each is 0 unless it is given."""
+        named = {name: 0 for name in NAMING.get(record[0], ())}
         self.rows.append(Row(self.section, record, {"refusal": refusal, **named, **expected}))
 
     def open(self, slot, mode):

@@ -2,7 +2,8 @@
 
 from dataclasses import dataclass
 
-from model import Body, set_record
+from model import Body, recipe_record, recipes_record, set_record
+from recipes import (CONTIGUOUS, EARLIER, INDEXED, ITEM_NUMBERS, RESIZED, STEP_NUMBERS, SUBARRAY, VECTOR, WIDTH, making, signed)
 
 LARGEST, SMALLEST = 2**63 - 1, -2**63  # signed numbers
 ALL_ONES = 2**64 - 1  # the largest unsigned number
@@ -47,6 +48,54 @@ def words(origins, filetype_extent, displacement=0):
 def in_a_row(n, instances):
     """This many instances of an etype of n bytes, each right after the one before."""
     return Shape((1,) * n, tuple(range(n)), n, tuple(range(0, n * instances, n)), n * instances)
+
+
+@dataclass(frozen=True)
+class Recipe:
+    """A recipe as a list of steps, each of kind, source, name, a, b and c, and a list of items; or any numbers at all.
+
+    Each constructor below gives the recipe with one step more, and its items. It is built of `of`: a width as (WIDTH, 4), a step as
+    (EARLIER, 0), or the last step so far, if it is not given."""
+
+    steps: tuple = ()  # numbers
+    items: tuple = ()
+
+    def __len__(self):
+        return len(self.steps) // STEP_NUMBERS
+
+    def step(self, kind, of, a, b=0, c=0, items=()):
+        source, name = of or (EARLIER, len(self) - 1)
+        return Recipe(self.steps + (kind, source, name, a, b, c), self.items + tuple(x for item in items for x in item))
+
+    def next_item(self):
+        return len(self.items) // ITEM_NUMBERS
+
+    def contiguous(self, count, of=None):
+        return self.step(CONTIGUOUS, of, count)
+
+    def vector(self, count, length, stride, of=None):
+        return self.step(VECTOR, of, count, length, stride)
+
+    def indexed(self, blocks, of=None):
+        """Blocks of length and displacement."""
+        return self.step(INDEXED, of, self.next_item(), len(blocks), 0, [(length, place, 0) for length, place in blocks])
+
+    def subarray(self, dimensions, of=None):
+        """Dimensions of size, subsize and start."""
+        return self.step(SUBARRAY, of, self.next_item(), len(dimensions), 0, dimensions)
+
+    def resized(self, extent, of=None):
+        return self.step(RESIZED, of, extent)
+
+
+def width(w):
+    """A basic width that a step is built of."""
+    return WIDTH, w
+
+
+def earlier(number):
+    """An earlier step that a step is built of."""
+    return EARLIER, number
 
 
 def one_changed(numbers, index, number):
@@ -131,6 +180,15 @@ def reverse(slot, byte):
     return record(45, slot, byte)
 
 
+def recipe(new, lengths, fill=0):
+    return record(46, *lengths, fill, len(new.steps), len(new.items), *new.steps, *new.items)
+
+
+def set_from_recipes(slot, displacement, etype, filetype, representation=b"native"):
+    lists = (etype.steps, etype.items, filetype.steps, filetype.items)
+    return record(47, slot, displacement, *map(len, lists), *(x for one in lists for x in one), tail=representation)
+
+
 NAMES = {
     32: ("file", "file length size seed"),
     33: ("file record", "file size"),
@@ -146,6 +204,8 @@ NAMES = {
     43: ("write at an offset", "slot file offset* count buffer seed"),
     44: ("write at the pointer", "slot file count buffer seed"),
     45: ("reverse lookup", "slot byte"),
+    46: ("recipe", ""),
+    47: ("set from recipes", ""),
 }
 LINE = ("tag refusal count a b c d e pointer view size0 sum0 size1 sum1 lent1 lent2 lent3 lent4").split()
 
@@ -153,10 +213,9 @@ LINE = ("tag refusal count a b c d e pointer view size0 sum0 size1 sum1 lent1 le
 def decode(tag, data):
     """The record in words."""
     body, (name, fields) = Body(data), NAMES[tag]
-    if tag == 34:
-        return f"{name}: {decode_forged(body)}"
-    if tag == 36:
-        return f"{name}: {decode_set(body)}"
+    whole = {34: decode_forged, 36: decode_set, 46: decode_recipe, 47: decode_recipes}
+    if tag in whole:
+        return f"{name}: {whole[tag](body)}"
     shown = [f"{one.rstrip('*')} {body.signed(i) if one.endswith('*') else body.number(i)}" for i, one in enumerate(fields.split())]
     return f"{name}: {', '.join(shown)}"
 
@@ -173,3 +232,52 @@ def decode_set(body):
     types = [f"{list(t.widths)} at {list(t.displacements)}, extent {t.extent}" for t in (new.etype, new.filetype)]
     return (f"slot {body.number(0)}, displacement {new.displacement}, etype {types[0]}, filetype {types[1]}, "
             f"representation {new.representation!r}")
+
+
+MEANINGS = {46: {"a": "entries", "b": "extent", "c": "is a step at fault", "d": "step at fault"},
+            47: {"a": "type named", "b": "entry named"}}
+MEANINGS[36] = MEANINGS[47]
+
+
+def in_words(tag, name):
+    """What this number of a line is called in messages."""
+    meaning = MEANINGS.get(tag, {}).get(name)
+    return f"{name} ({meaning})" if meaning else name
+
+
+SHOWN_ITEMS = 12  # of one step, in messages
+
+
+def decode_step(step):
+    if step.source == WIDTH:
+        of = f"width {step.name}"
+    else:
+        of = f"step {step.name}" if step.source == EARLIER else f"source {step.source}, name {step.name}"
+    items = [step.item(step.a + i) for i in range(min(step.b, SHOWN_ITEMS))]
+    more = f" and {step.b - SHOWN_ITEMS} more" if step.b > SHOWN_ITEMS else ""
+    blocks = ", ".join(f"{length} at {signed(place)}" for length, place, _ in items) + more
+    dimensions = ", ".join(f"{subsize} of {size} from {signed(start)}" for size, subsize, start in items) + more
+    words = {CONTIGUOUS: f"contiguous, {step.a}", VECTOR: f"vector, {step.a} blocks of {step.b}, stride {signed(step.c)}",
+             INDEXED: f"indexed, {step.b} blocks from item {step.a} on: {blocks}",
+             SUBARRAY: f"subarray, {step.b} dimensions from item {step.a} on: {dimensions}",
+             RESIZED: f"resized, extent {signed(step.a)}"}
+    return f"({step.number}) {words.get(step.kind, f'kind {step.kind}')} of {of}"
+
+
+def decode_steps(steps, items):
+    whole, rest = divmod(len(steps), STEP_NUMBERS)
+    shown = [decode_step(making(steps, items, number)) for number in range(whole)]
+    part = [f"{rest} numbers of a step"] if rest else []
+    return "; ".join(shown + part) or "no step"
+
+
+def decode_recipe(body):
+    new = recipe_record(body)
+    return (f"lists of {len(new.widths)} and {len(new.displacements)}, fill {body.number(2) % 2**31}, "
+            f"{len(new.steps)} numbers of steps, {len(new.items)} of items: {decode_steps(new.steps, new.items)}")
+
+
+def decode_recipes(body):
+    new = recipes_record(body)
+    return (f"slot {body.number(0)}, displacement {new.displacement}, etype [{decode_steps(*new.etype)}], "
+            f"filetype [{decode_steps(*new.filetype)}], representation {new.representation!r}")

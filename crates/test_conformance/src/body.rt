@@ -6,6 +6,12 @@ const SLOT_COUNT: u64 = 4;
 
 const FILE_COUNT: u64 = 2;
 
+// The longest lent list.
+pub const LONGEST_LIST: usize = 300;
+
+// 2^31, below which the numbers lie that fill a lent list.
+pub const FILLS: u64 = 2147483648;
+
 // The handle slot that a body names: its first number.
 pub fn slot_of(body: &[u8]) -> usize
     ensures { λ r. ⌜ r < 4 ⌝ }

@@ -1,6 +1,7 @@
 // The line of a record: its numbers, the checksum of a handle, and printing (docs/conformance.md).
 use file::FileRecord;
 use file::Handle;
+use file::SetViewAnswer;
 use libc::STDOUT_FILENO;
 
 // What the line of a call says: refusal, count and the other numbers of the answer, its handle and file record, and checksums of what the call was lent.
@@ -11,6 +12,13 @@ pub struct Line {
     pub handle: Handle,
     pub file: FileRecord,
     pub sums: [u64; 4],
+}
+
+// What the line of a recipe says: refusal and the other numbers of the answer, and checksums of the two lent lists.
+pub struct RecipeLine {
+    pub refusal: u64,
+    pub others: [u64; 4],
+    pub sums: [u64; 2],
 }
 
 impl Line {
@@ -30,6 +38,15 @@ impl Line {
             file: rec,
             sums: sums,
         }
+    }
+
+    // The line of a set.
+    pub fn of_set(a: SetViewAnswer, rec: FileRecord, sums: [u64; 4]) -> Line {
+        let named = a.named;
+        let told = named.numbers();
+        let others = [told.kind, told.entry, 0, 0, 0];
+        let handle = a.handle;
+        Line::new(a.refusal, a.count, others, handle, rec, sums)
     }
 }
 
@@ -100,6 +117,14 @@ pub fn print_call(tag: u8, l: Line, files: [u64; 4]) {
     let sum = handle_sum(handle);
     let sums = l.sums;
     print_parts(tag, answer, [handle.pointer, sum], files, sums);
+}
+
+// Prints the line of a recipe, which has no handle.
+pub fn print_recipe(tag: u8, l: RecipeLine, files: [u64; 4]) {
+    let o = l.others;
+    let answer = [l.refusal, 0, o[0], o[1], o[2], o[3], 0];
+    let sums = l.sums;
+    print_parts(tag, answer, [0u64; 2], files, [sums[0], sums[1], 0, 0]);
 }
 
 // Prints the line of a record that makes no call.

@@ -1,6 +1,7 @@
 // The conformance driver: reads a script from standard input, makes its calls in order and prints a line a record (docs/conformance.md).
 mod body;
 mod line;
+mod recipes;
 mod record;
 
 ghost use mathlib.Core.Path.{_≡_};
@@ -168,6 +169,10 @@ impl Driver {
             let made = self.make_file(tag, body, bytes);
             line::print_file(tag, made.files(bytes));
             return made;
+        }
+        if tag == record::RECIPE {
+            line::print_recipe(tag, recipes::flatten(body), self.files(bytes));
+            return self;
         }
         let answer = self.call(tag, body, bytes);
         let after = self.answered(body, answer);

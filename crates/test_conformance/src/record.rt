@@ -1,9 +1,12 @@
 // What the driver does with a record that makes a call, one function a tag: it reads the body, makes the call and has the line's numbers (docs/conformance.md).
+use crate::body::FILLS;
+use crate::body::LONGEST_LIST;
 use crate::body::byte_at;
 use crate::body::fill;
 use crate::body::length_at;
 use crate::line::Line;
 use crate::line::list_sums;
+use crate::recipes::set_from_recipes;
 use file::FileRecord;
 use file::GetViewAnswer;
 use file::Handle;
@@ -15,7 +18,7 @@ use view::Offset;
 use view::Owner;
 use view::View;
 
-// The tags of the records. Those of a file, 32 and 33, make no call.
+// The tags of the records. Those of a file, 32 and 33, make no call; that of a recipe, 46, makes one without a handle.
 const FILE: u8 = 32;
 
 pub const FILE_RECORD: u8 = 33;
@@ -44,16 +47,15 @@ const WRITE: u8 = 44;
 
 const REVERSE: u8 = 45;
 
-// The longest lent list and the longest buffer.
-const LONGEST_LIST: usize = 300;
+pub const RECIPE: u8 = 46;
 
+const SET_FROM_RECIPES: u8 = 47;
+
+// The longest buffer.
 const LONGEST_BUFFER: usize = 4096;
 
 // How many numbers of a set stand before its lists.
 const SET_NUMBERS: usize = 8;
-
-// 2^31, below which the numbers lie that fill a lent list.
-const FILLS: u64 = 2147483648;
 
 // The view of a forged handle.
 fn forged_view(body: &[u8]) -> View {
@@ -120,12 +122,8 @@ fn set_with(
     let ex = tagged_fields::signed_at(body, 2);
     let fx = tagged_fields::signed_at(body, 3);
     let a = h.set_view(representation, d, ew, ed, ex, fw, fd, fx);
-    let named = a.named;
-    let told = named.numbers();
-    let others = [told.kind, told.entry, 0, 0, 0];
     let sums = list_sums(ew, ed, fw, fd);
-    let handle = a.handle;
-    Line::new(a.refusal, a.count, others, handle, rec, sums)
+    Line::of_set(a, rec, sums)
 }
 
 // Tag 36: the lists stand one after the other, and what the body has after them is the representation.
@@ -303,10 +301,10 @@ pub fn known(tag: u8) -> bool {
     if tag < FILE {
         return false;
     }
-    tag <= REVERSE
+    tag <= SET_FROM_RECIPES
 }
 
-// Makes the call of a record of tag 34 or above, on the handle and the file that it names.
+// Makes the call of a record of tag 34 or above but 46, on the handle and the file that it names.
 pub fn perform(tag: u8, body: &[u8], h: Handle, file: &mut [u8], rec: FileRecord) -> Line {
     match tag {
         FORGED => forge(body, rec),
@@ -320,6 +318,7 @@ pub fn perform(tag: u8, body: &[u8], h: Handle, file: &mut [u8], rec: FileRecord
         READ => read(body, h, file, rec),
         WRITE_AT => write_at(body, h, file, rec),
         WRITE => write(body, h, file, rec),
-        _ => reverse(body, h, rec),
+        REVERSE => reverse(body, h, rec),
+        _ => set_from_recipes(body, h, rec),
     }
 }

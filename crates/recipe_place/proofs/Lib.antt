@@ -1,0 +1,4 @@
+pub mod Fronts
+pub mod Plans
+pub mod Placing
+pub mod Descending

@@ -1,0 +1,3 @@
+pub mod Typemaps
+pub mod Recipes
+pub mod Parts
