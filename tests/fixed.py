@@ -11,7 +11,7 @@ from entries import ETYPE, FILETYPE, MEGA, NAMED, changed, spread
 from interlaced import INTERLACED, P12
 from model import Body, checksum, run
 from recipe_rows import RECIPES
-from script_rows import BYTES, NAMING, READ_ONLY, RECIPE, SET, SETS, WRITE_ONLY, Script, every_call, handle_sum, made
+from script_rows import BYTES, NAMING, READ_ONLY, RECIPE, SET, SET_FROM_RECIPES, WRITE_ONLY, Script, every_call, handle_sum, made
 from scripts import (ALL_ONES, LARGEST, LINE, SMALLEST, Request, Shape, decode, end, field, file_record, forged, give_back, in_a_row,
                      new_file, one_changed, open_handle, place, read_at, read_here, record, reverse, seek, words, write_at, write_here)
 
@@ -1238,11 +1238,11 @@ def stays(before, handle, numbers):
         kept |= {name: before[name] for name in FILES}
     if tag == RECIPE:
         return kept | {"pointer": 0, "view": 0, "lent3": 0, "lent4": 0}
-    if tag in SETS and tag != SET:
+    if tag == SET_FROM_RECIPES:
         kept |= {f"lent{i}": 0 for i in range(1, 5)}
-    if tag > 35 and (refused or tag not in SETS):
+    if tag > 35 and (refused or tag not in (SET, SET_FROM_RECIPES)):
         kept["view"] = handle["view"]
-    if tag > 35 and (refused or tag not in (40, 42, 44, *SETS)):
+    if tag > 35 and (refused or tag not in (SET, 40, 42, 44, SET_FROM_RECIPES)):
         kept["pointer"] = handle["pointer"]
     return kept
 

@@ -672,7 +672,7 @@ class Generator:
     def tail(self):
         """What stands after the last whole record."""
         cut = record(38, 1, 2)
-        return self.rng.choice((b"", b"", cut[:1], cut[:2], cut[:3], cut[:-1], field(31, b""), field(49, b"\0" * 8), b"\x01\0\0", b"\xff"))
+        return self.rng.choice((b"", b"", cut[:1], cut[:2], cut[:3], cut[:-1], field(31, b""), field(48, b"\0" * 8), b"\x01\0\0", b"\xff"))
 
     def script(self):
         least = self.rng.randint(*RECORDS)

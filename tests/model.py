@@ -8,7 +8,7 @@ the lines.
 from dataclasses import dataclass, replace
 from functools import lru_cache
 
-from recipes import CONTIGUOUS, WIDTH, Recipes, signed
+from recipes import Recipes, signed
 
 ETYPE_PLACES = 8
 ORIGIN_PLACES = 64
@@ -291,11 +291,6 @@ class Rules(Recipes):
             types.append(Type(tuple(widths[:flat.entries]), tuple(displacements[:flat.entries]), flat.extent))
         return self.set(handle, displacement, *types, representation)
 
-    def set_over_width(self, handle, displacement, width, filetype, representation):
-        """The etype is the type of a recipe of one step: contiguous, one copy of this basic width."""
-        etype = ((CONTIGUOUS, WIDTH, width, 1, 0, 0), ())
-        return self.set_from_recipes(handle, displacement, etype, filetype, representation)
-
     def give_back(self, handle, lists):
         if not self.handle_allowed(handle):
             return Answer(handle, 1)
@@ -520,21 +515,6 @@ def recipes_record(body):
 
 
 @dataclass(frozen=True)
-class WidthRecord:
-    """The body of a set from a recipe over a basic width; of the filetype's recipe the steps and the items."""
-
-    displacement: int
-    width: int
-    filetype: tuple
-    representation: bytes
-
-
-def width_record(body):
-    lists, first = counted_lists(body, 3, 2, LONGEST_RECIPE)
-    return WidthRecord(body.signed(1), body.number(2), tuple(lists), body.after(first))
-
-
-@dataclass(frozen=True)
 class Step:
     """One record that was run: its byte place in the script, the files before it, its answer (None for the file records), its line."""
 
@@ -571,8 +551,7 @@ class Driver:
         self.files = [File(b"", 0)] * FILES
         self.records = {32: self.new_file, 33: self.file_record, 34: self.forged_handle, 35: self.open, 36: self.set,
                         37: self.give_back, 38: self.place, 39: self.end, 40: self.seek, 41: self.read_at, 42: self.read_here,
-                        43: self.write_at, 44: self.write_here, 45: self.reverse, 46: self.recipe, 47: self.set_from_recipes,
-                        48: self.set_over_width}
+                        43: self.write_at, 44: self.write_here, 45: self.reverse, 46: self.recipe, 47: self.set_from_recipes}
 
     def handle(self, body):
         return self.slots[body.number(0) % SLOTS]
@@ -650,10 +629,6 @@ class Driver:
     def set_from_recipes(self, body):
         new = recipes_record(body)
         return self.rules.set_from_recipes(self.handle(body), new.displacement, new.etype, new.filetype, new.representation), []
-
-    def set_over_width(self, body):
-        new = width_record(body)
-        return self.rules.set_over_width(self.handle(body), new.displacement, new.width, new.filetype, new.representation), []
 
     def line(self, tag, answer, lent):
         if answer is None:

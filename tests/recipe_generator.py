@@ -1,5 +1,4 @@
-"""The generated scripts of order 4: `generate(seed)` gives one script of 450 recipes, good and bad ones, and sets from recipes, from two
-and from one over a basic width.
+"""The generated scripts of order 4: `generate(seed)` gives one script of some 450 recipes, good and bad ones, and sets from recipes.
 
 The generator runs the model's own steps along, so that it can aim the next step at the typemap that it will find. The answer may still be
 another one than it aims at.
@@ -10,23 +9,22 @@ from random import Random
 from model import Body, Driver, Rules
 from recipes import Recipes, making
 from scripts import (ALL_ONES, LARGEST, SMALLEST, Recipe, earlier, end, give_back, new_file, open_handle, place, read_at, read_here, recipe,
-                     reverse, set_from_recipes, set_over_width, width, write_at)
+                     reverse, set_from_recipes, width, write_at)
 
 MEGA = 1_048_576
-RECIPE_COUNT, EVERY = 450, 30  # recipes of a script, and a set from two recipes and one over a width after so many of them
+RECIPE_COUNT, EVERY = 450, 30  # recipes of a script, and a set from recipes after so many of them
 DEPTHS = (1, 1, 1, 1, 2, 2, 2, 2, 2, 3, 3, 3, 3, 3, 4, 4, 4, 4, 5, 5, 5, 6, 6, 7, 8, 9, 10, 12, 16, 31, 32)
 PREFIXES = (0, 0, 0, 0, 0, 1, 1, 1, 2, 2, 3, 3, 4, 5, 6, 8, 15, 31)  # good steps before a bad one
 BAD_WIDTHS = (0, 3, 5, 6, 7, 9, 16, 2**32 + 1, 2**63, ALL_ONES)
-HUGE = (257, 300, 2**31, 2**32, 2**32 + 1, 2**61, 2**62, 2**63 - 1, 2**63, 2**63 + 1, 2**64 - 256, 2**64 - 255, 2**64 - 2, ALL_ONES,
-        ALL_ONES)
+HUGE = (257, 300, 2**31, 2**32, 2**32 + 1, 2**61, 2**62, 2**63 - 1, 2**63, 2**63 + 1, 2**64 - 2, ALL_ONES)
 REFUSALS = (26, 27, 27, 28, 28, 28, 29, 29, 29, 30, 30, 30, 31, 31, 31, 31, 31, 32, 32, 33, 33)
 
 
 class Growing:
-    """A recipe that grows by good steps; the typemaps of its steps are at hand. A deep one is built of the last step each time."""
+    """A recipe that grows by good steps; the typemaps of its steps are at hand."""
 
-    def __init__(self, rng, deep=False):
-        self.rng, self.rules, self.deep = rng, Recipes(), deep
+    def __init__(self, rng):
+        self.rng, self.rules = rng, Recipes()
         self.new, self.typemaps = Recipe(), []
 
     def tried(self, new):
@@ -42,8 +40,6 @@ class Growing:
 
     def source(self):
         """What the next step is built of, with its typemap: mostly the last step."""
-        if self.deep and self.typemaps:
-            return earlier(len(self.typemaps) - 1), self.typemaps[-1]
         part = self.rng.random()
         if not self.typemaps or part < 0.08:
             w = self.rng.choice((1, 1, 2, 4, 8))
@@ -206,21 +202,14 @@ class Spoiling:
 
     def refusal_28(self, of, _typemap):
         any_of, huge = self.rng.choice((1, 2, 3)), self.rng.choice(HUGE)
-        first = self.rng.choice((self.new.next_item(), self.new.next_item() + 1, 333, 2**32, 2**63, 2**64 - 2, ALL_ONES, ALL_ONES))
+        first = self.rng.choice((self.new.next_item(), self.new.next_item() + 1, 333, 2**32, 2**63, ALL_ONES))
         blocks = [(self.rng.choice((1, 2, 300)), self.rng.choice((0, 3, -1))) for _ in range(self.rng.choice((0, 1, 2)))]
         dimensions = [(4, self.rng.choice((1, 2, 5)), self.rng.choice((0, 1, -1))) for _ in range(self.rng.choice((0, 1, 2, 3, 4)))]
         return self.rng.choice((
             self.new.contiguous(0, of), self.new.vector(0, any_of, 1, of), self.new.vector(any_of, 0, -1, of), self.new.indexed([], of),
             self.new.vector(huge, 0, 1, of), self.new.indexed(self.mixed(blocks, (0, self.rng.choice((0, 5)))), of),
             self.new.subarray(self.mixed(dimensions, (self.rng.choice((0, 4)), 0, 0)), of), self.new.step(3, of, first, any_of),
-            self.new.step(4, of, first, any_of), self.new.step(self.rng.choice((3, 4)), of, 0, huge),
-            *(self.without_end(of) for _ in range(4))))
-
-    def without_end(self, of):
-        """Far more blocks or dimensions than there are items; the first ones are good."""
-        number = self.rng.choice((ALL_ONES, ALL_ONES, ALL_ONES, ALL_ONES, 2**64 - 2, 2**63, 2**32 + 1, 334, 5))
-        items = [(2, 1, 0)] * self.rng.choice((1, 2, 3, 4))
-        return self.new.step(self.rng.choice((3, 4)), of, self.new.next_item(), number, 0, items)
+            self.new.step(4, of, first, any_of), self.new.step(self.rng.choice((3, 4)), of, 0, huge)))
 
     def mixed(self, items, bad):
         where = self.rng.randint(0, len(items))
@@ -229,36 +218,30 @@ class Spoiling:
     def refusal_29(self, of, _typemap):
         size = self.rng.choice((1, 2, 4, 5))
         bad = self.rng.choice(((size, size + 1, 0), (size, 1, size), (size, 1, -1), (0, 1, 0), (size, ALL_ONES, 1), (size, size, 1),
-                               (size, 1, LARGEST), (size, 2**63, 1), (size, 1, SMALLEST), (ALL_ONES, 2**63 + 1, LARGEST), (size, 300, 0),
-                               (size, ALL_ONES - size + 1, size), (ALL_ONES, ALL_ONES, size)))
+                               (size, 1, LARGEST), (size, 1, SMALLEST), (ALL_ONES, 2**63 + 1, LARGEST), (size, 300, 0)))
         good = [(4, self.rng.choice((1, 2, 4)), 0) for _ in range(self.rng.choice((0, 1, 2, 3)))]
-        five = [(4, self.rng.choice((1, 2, 4)), 0) for _ in range(self.rng.choice((5, 5, 6, 9)))]
+        five = [(4, self.rng.choice((1, 2, 4)), 0) for _ in range(self.rng.choice((5, 6, 9)))]
         return self.new.subarray(self.rng.choice(([], self.mixed(good, bad), self.mixed(good, bad), self.mixed(good, bad), five)), of)
 
     def refusal_30(self, of, typemap):
         most, huge, other = 256 // len(self.growing.rules.data(typemap)), self.rng.choice(HUGE), self.rng.choice(HUGE)
         over, place_of = self.rng.choice((most + 1, most + 1, most + 2, 2 * most + 1)), self.rng.choice((0, 1, -1, MEGA, SMALLEST))
-        half, near = over // 2, self.rng.choice((2**64 - 256, 2**64 - 255, 2**64 - 2, ALL_ONES))
+        half = over // 2
         return self.rng.choice((
             self.new.contiguous(over, of), self.new.contiguous(huge, of), self.new.vector(over, 1, place_of, of),
             self.new.vector(1, over, place_of, of), self.new.vector(huge, other, place_of, of), self.new.vector(half + 1, 2, 2, of),
             self.new.indexed([(over, place_of)], of), self.new.indexed([(half + 1, 0), (over - half, place_of)], of),
-            self.new.indexed([(huge, 0), (other, 0)], of), self.new.subarray([(over, over, 0)], of), self.new.vector(1, huge, place_of, of),
-            self.new.indexed([(1, 0), (huge, place_of)], of), self.new.subarray([(ALL_ONES, huge, 0), (2, 1, 1)], of),
-            self.new.contiguous(near, of), self.new.vector(near, 1, place_of, of), self.new.vector(2, near, place_of, of),
-            self.new.indexed([(2, 0), (near, place_of)], of), self.new.subarray([(2, 1, 1), (ALL_ONES, near, 0)], of),
+            self.new.indexed([(huge, 0), (other, 0)], of), self.new.subarray([(over, over, 0)], of),
             self.new.subarray([(huge, huge, 0), (other, other, 0)], of), self.new.subarray([(half + 2, half + 1, 0), (2, 2, 0)], of)))
 
     def refusal_31(self, of, typemap):
         rules = self.growing.rules
         extent, low = rules.extent(typemap), min(d for _, d in rules.data(typemap))
         past, below = -(-(MEGA - low) // extent), -(low // extent) - 1
-        by = self.rng.choice((past, past, below, below, 2**62, 2**61, -(2**61), LARGEST, LARGEST, SMALLEST, SMALLEST,
-                              2**64 // extent % 2**63, 2**44))
+        by = self.rng.choice((past, past, below, below, 2**62, 2**61, -(2**61), LARGEST, SMALLEST, 2**64 // extent % 2**63, 2**44))
         size = self.rng.choice((MEGA // extent + 1, MEGA // extent + 1, 2**32, 2**63, ALL_ONES, 2**44))
         return self.rng.choice((
             self.new.vector(2, 1, by, of), self.new.vector(1 + self.rng.choice((1, 2)), 1, by, of), self.new.indexed([(1, by)], of),
-            self.new.vector(2, self.rng.choice((1, 2)), self.rng.choice((LARGEST, SMALLEST)), of),
             self.new.indexed([(1, 0), (1, by)], of), self.new.subarray([(size, 1, 0)], of),
             self.new.subarray([(2, 1, 0), (size, 1, 0)], of),
             self.new.subarray([(2**32, 1, 1), (2**32, 1, 0)], of), self.new.subarray([(ALL_ONES, 1, abs(by) % 2**63)], of),
@@ -306,28 +289,6 @@ class Maker:
     def long_enough(self, entries):
         return [entries + self.rng.choice((0, 0, 0, 1, 2, 7, 300)) for _ in range(2)]
 
-    def deep(self):
-        """31 or 32 steps, each of the one before; sometimes one more, or a bad one at the end."""
-        growing = Growing(self.rng, True)
-        growing.good(self.rng.choice((31, 32, 32, 32)))
-        new, part = growing.new, self.rng.random()
-        if part < 0.15:
-            new = new.contiguous(1)
-        elif len(new) < 32:
-            new = Spoiling(self.rng, growing).step(self.rng.choice((27, 28, 29, 30, 31)))
-        return new, self.long_enough(len(growing.rules.data(growing.typemaps[-1])))
-
-    def cut(self):
-        """A good recipe whose items end in an item that a step uses, or in one that no step uses."""
-        growing = Growing(self.rng)
-        growing.good(self.rng.choice(DEPTHS[:24]))
-        new = growing.new
-        if new.items and self.rng.random() < 0.6:
-            items = new.items[:-self.rng.choice((1, 2))]
-        else:
-            items = new.items + tuple(self.rng.choice((0, 1, 2, 3, ALL_ONES)) for _ in range(self.rng.choice((1, 2))))
-        return Recipe(new.steps, items), self.long_enough(len(growing.rules.data(growing.typemaps[-1])))
-
     def bad(self, refusal):
         if refusal == 26:
             return self.bad_number(), (256, 256)
@@ -370,13 +331,9 @@ class Maker:
 
     def recipe(self):
         part = self.rng.random()
-        if part < 0.53:
+        if part < 0.58:
             return self.good()
-        if part < 0.59:
-            return self.cut()
-        if part < 0.62:
-            return self.deep()
-        if part < 0.94:
+        if part < 0.93:
             return self.bad(self.rng.choice(REFUSALS))
         return Wild(self.rng).recipe(), (256, 256)
 
@@ -390,12 +347,7 @@ class Generator:
         self.records.append(record)
 
     def make_set(self, record):
-        """A set is run along, so that calls can be aimed at its view. Sometimes its body lacks numbers."""
-        if self.rng.random() < 0.02:
-            record = self.cut(record)
-        self.run_along(record)
-
-    def run_along(self, record):
+        """A set is run along, so that calls can be aimed at its view."""
         self.driver.step(0, record[0], Body(record[3:]))
         self.records.append(record)
 
@@ -446,18 +398,6 @@ class Generator:
             (Recipe().contiguous(2, w), Recipe().contiguous(3, w)), (Recipe().indexed([(1, 1), (1, 0)], w), etype),
             (etype, etype.resized(self.rng.choice((3, 5, 7)))), (Recipe().contiguous(2, w), Recipe().vector(2, 1, 2, w))))
 
-    def bad_recipe(self):
-        """A recipe that is refused, mostly."""
-        if self.rng.random() < 0.15:
-            return self.maker.cut()[0]
-        return self.maker.bad(self.rng.choice([refusal for refusal in REFUSALS if refusal != 33]))[0]
-
-    def displacement(self, part):
-        return self.rng.choice((0, 0, 0, 3, 20, 100, 2**40, -1 if part < 0.1 else 0, 2**40 + 1 if part < 0.1 else 0))
-
-    def representation(self, part):
-        return self.rng.choice((b"native", b"nativ", b"native\0", b"")) if part > 0.95 else b"native"
-
     def set(self, slot):
         etype = self.etype()
         pair = (etype, self.filetype(etype))
@@ -465,40 +405,11 @@ class Generator:
         if part < 0.3:
             pair = self.own_fault(etype)
         elif part < 0.55:
-            bad = self.bad_recipe()
+            bad = self.maker.bad(self.rng.choice([refusal for refusal in REFUSALS if refusal != 33]))[0]
             pair = self.rng.choice(((bad, pair[1]), (pair[0], bad), (pair[0], bad), (bad, self.maker.bad(27)[0])))
-        self.make_set(set_from_recipes(slot, self.displacement(part), *pair, self.representation(part)))
-
-    # Sets from a recipe over a basic width
-
-    def over(self, w):
-        """A filetype of this width, in order."""
-        of, few = width(w), self.rng.choice((1, 2, 3, 4, 8))
-        new = self.rng.choice((Recipe().contiguous(few, of), Recipe().vector(few, self.rng.choice((1, 2)), self.rng.choice((2, 3, 5)), of),
-                               Recipe().subarray([(few + 1, few, 1)], of), Recipe().indexed([(1, 0), (2, self.rng.choice((1, 2, 4)))], of),
-                               Recipe().subarray([(3, 2, 1), (4, 2, self.rng.choice((0, 1, 2)))], of),
-                               self.filetype(Recipe().contiguous(1, of))))
-        return new.resized(w * self.rng.choice((1, 2, 5, 8, 12, 16))) if self.rng.random() < 0.2 else new
-
-    def own_fault_over(self, w):
-        """A filetype that the set itself refuses, or nearly."""
-        of, few, basic = width(w), self.rng.choice((2, 3, 5)), Recipe().contiguous(1, width(w))
-        return self.rng.choice((
-            Recipe().contiguous(few, width(self.rng.choice((1, 2, 4, 8)))), Recipe().resized(few, width(self.rng.choice((1, 2, 4, 8)))),
-            Recipe().resized(self.rng.choice((1, 3)), of).subarray([(6 * w, 1, few)]),
-            Recipe().resized(1, of).indexed([(1, 0), (1, 2 * w + few)]), basic.resized(w + few), basic.resized(few), basic.vector(2, 2, 1),
-            Recipe().indexed([(1, 2), (1, 1), (1, 0)], of), Recipe().indexed([(2, 1), (1, 0)], of),
-            Recipe().contiguous(self.rng.choice((64, 65, 256)), of), Recipe().vector(few, 1, 2, of).resized(2 * w)))
-
-    def set_over_width(self, slot):
-        w, part = self.rng.choice((1, 2, 4, 8)), self.rng.random()
-        if part < 0.3:
-            filetype = self.own_fault_over(w)
-        else:
-            filetype = self.bad_recipe() if part < 0.56 else self.over(w)
-        if self.rng.random() < 0.12:
-            w = self.rng.choice(BAD_WIDTHS)
-        self.make_set(set_over_width(slot, self.displacement(part), w, filetype, self.representation(part)))
+        displacement = self.rng.choice((0, 0, 0, 3, 20, 100, 2**40, -1 if part < 0.1 else 0, 2**40 + 1 if part < 0.1 else 0))
+        name = self.rng.choice((b"native", b"nativ", b"native\0", b"")) if part > 0.95 else b"native"
+        self.make_set(set_from_recipes(slot, displacement, *pair, name))
 
     def calls(self, slot):
         """Calls that show the view."""
@@ -516,22 +427,19 @@ class Generator:
         self.emit(read_here(slot, 0, count, 64 * count))
         self.emit(reverse(slot, self.rng.randrange(60)))
 
-    def episode(self, new_set):
-        """One or two sets in one slot, and calls."""
+    def episode(self):
         slot = self.rng.randrange(4)
         if self.rng.random() < 0.9:
-            self.run_along(open_handle(slot, self.rng.choice((1, 1, 1, 1, 1, 2, 2, 2, 3, 3, 3, 3, 3, 3, 4))))
+            self.make_set(open_handle(slot, self.rng.choice((1, 1, 2, 3, 3))))
         for _ in range(self.rng.choice((1, 1, 2))):
-            new_set(slot)
+            self.set(slot)
         self.calls(slot)
 
     def script(self):
         for number in range(RECIPE_COUNT):
             self.recipe()
             if number % EVERY == 0:
-                self.episode(self.set)
-            if number % EVERY == EVERY // 2:
-                self.episode(self.set_over_width)
+                self.episode()
         return b"".join(self.records)
 
 

@@ -1,17 +1,17 @@
 """Misreadings of document 02's order 4, each as a wrong copy of the model. `mutants` shows that the rows of the fixed script see them.
 
 Each class has the refusals of a recipe that its rows state, 0 for a granted one: of each there must be a row whose line the misreading
-makes wrong. A class about sets from recipes, or from a recipe over a basic width, has the calls by tag.
+makes wrong. A class about sets from recipes has the calls by tag.
 """
 
 from dataclasses import replace
 from itertools import product as every_place
 
-from model import FILETYPE, Answer, Rules, Type
+from model import Answer, Rules
 from recipes import (CONTIGUOUS, EARLIER, INDEXED, ITEM_NUMBERS, LOWER, MARKERS, RESIZED, STEP_NUMBERS, SUBARRAY, UPPER, VECTOR, WIDTH,
                      Flat, making, product, signed)
 
-RECIPE, SET_FROM_RECIPES, SET_OVER_WIDTH = 46, 47, 48
+RECIPE, SET_FROM_RECIPES = 46, 47
 A_MILLION = 1_048_576
 
 
@@ -790,24 +790,14 @@ class NoBlocksIs29(Rules):
         return super().is_no_subarray(step) or step.kind == INDEXED and step.b == 0
 
 
-def lacks_items(step):
-    """True if a block or a dimension of this step is not whole in the items."""
-    return step.kind in (INDEXED, SUBARRAY) and step.b > 0 and ITEM_NUMBERS * (step.a + step.b) > len(step.items)
-
-
-def uses_cut_item(step):
-    """True if the items end inside a block or a dimension of this step."""
-    cut, rest = divmod(len(step.items), ITEM_NUMBERS)
-    return step.kind in (INDEXED, SUBARRAY) and rest > 0 and step.a <= cut < step.a + step.b
-
-
 class MissingItemsAre29(Rules):
     """28: blocks and dimensions past the end of the items are 29"""
 
     seen_by = recipe_rows(28)
 
     def judged_step(self, step, typemaps):
-        return (29, None) if lacks_items(step) and not self.names_nothing(step) else super().judged_step(step, typemaps)
+        past = step.kind in (INDEXED, SUBARRAY) and step.b and ITEM_NUMBERS * (step.a + step.b - 1) >= len(step.items)
+        return (29, None) if past and not self.names_nothing(step) else super().judged_step(step, typemaps)
 
 
 class MissingItemsAre27(Rules):
@@ -816,139 +806,18 @@ class MissingItemsAre27(Rules):
     seen_by = recipe_rows(28)
 
     def names_nothing(self, step):
-        return lacks_items(step) or super().names_nothing(step)
+        past = step.kind in (INDEXED, SUBARRAY) and step.b and ITEM_NUMBERS * (step.a + step.b - 1) >= len(step.items)
+        return past or super().names_nothing(step)
 
 
-class CutItemIsFilled(Rules):
-    """28: the missing numbers of a cut item are 0 and the rest counts"""
-
-    seen_by = recipe_rows(28) | {(SET_FROM_RECIPES, 28), (SET_OVER_WIDTH, 28)}
-
-    def judged_step(self, step, typemaps):
-        missing = -len(step.items) % ITEM_NUMBERS if self.counts_for(step) else 0
-        return super().judged_step(replace(step, items=step.items + (0,) * missing), typemaps)
-
-    def counts_for(self, step):
-        """Whether the numbers of a cut item count for this step."""
-        return True
-
-
-class CutBlockIsFilled(CutItemIsFilled):
-    """28: the missing numbers of a cut block are 0 and the rest counts"""
-
-    seen_by = recipe_rows(28)
-
-    def counts_for(self, step):
-        return step.kind == INDEXED
-
-
-class CutDimensionIsFilled(CutItemIsFilled):
-    """28: the missing numbers of a cut dimension are 0 and the rest counts"""
-
-    seen_by = recipe_rows(28)
-
-    def counts_for(self, step):
-        return step.kind == SUBARRAY
-
-
-class TwoNumbersAreWhole(CutItemIsFilled):
-    """28: an item counts as whole if its first two numbers are there"""
-
-    def counts_for(self, step):
-        return len(step.items) % ITEM_NUMBERS == 2
-
-
-class TwoNumbersOfABlock(CutItemIsFilled):
-    """28: a block counts as whole if its length and its displacement are there"""
-
-    def counts_for(self, step):
-        return step.kind == INDEXED and len(step.items) % ITEM_NUMBERS == 2
-
-
-class TwoNumbersOfADimension(CutItemIsFilled):
-    """28: a dimension counts as whole if its size and its subsize are there"""
-
-    def counts_for(self, step):
-        return step.kind == SUBARRAY and len(step.items) % ITEM_NUMBERS == 2
-
-
-class OneNumberIsWhole(CutItemIsFilled):
-    """28: an item of which the first number alone is there counts with it"""
-
-    seen_by = recipe_rows(28)
-
-    def counts_for(self, step):
-        return len(step.items) % ITEM_NUMBERS == 1
-
-
-class CutItemLeftOut(EmptyIsAllowed):
-    """28: a cut block or dimension is left out, and the others count"""
-
-    seen_by = recipe_rows(28)
-
-    def judged_step(self, step, typemaps):
-        last = step.a + step.b - 1 == len(step.items) // ITEM_NUMBERS
-        return super().judged_step(replace(step, b=step.b - 1) if uses_cut_item(step) and last else step, typemaps)
-
-
-class CutItemIs27(Rules):
-    """28: a step that uses a cut item is refused with 27"""
-
-    seen_by = recipe_rows(28)
-
-    def names_nothing(self, step):
-        return uses_cut_item(step) or super().names_nothing(step)
-
-
-class CutItemIs29(Rules):
-    """28: a step that uses a cut item is refused with 29"""
-
-    seen_by = recipe_rows(28)
-
-    def judged_step(self, step, typemaps):
-        return (29, None) if uses_cut_item(step) and not self.names_nothing(step) else super().judged_step(step, typemaps)
-
-
-class CutItemAnywhere(Rules):
-    """28: a cut item anywhere refuses the recipe even if unused"""
-
-    seen_by = recipe_rows(0) | {(SET_FROM_RECIPES, 0), (SET_OVER_WIDTH, 0)}
-
-    def flatten(self, steps, items, widths, displacements):
-        flat = super().flatten(steps, items, widths, displacements)
-        return Flat(28, step=0) if flat.refusal == 0 and len(items) % ITEM_NUMBERS else flat
-
-
-class CutItemOfTheStep(Rules):
-    """28: a cut item refuses every indexed step and every subarray, even if it does not use it"""
+class WholeItemsOnly(Rules):
+    """28: an item of which a part is missing is none"""
 
     seen_by = recipe_rows(0)
 
     def judged_step(self, step, typemaps):
-        refusal, typemap = super().judged_step(step, typemaps)
-        cut = step.kind in (INDEXED, SUBARRAY) and len(step.items) % ITEM_NUMBERS > 0
-        return (28, None) if refusal == 0 and cut else (refusal, typemap)
-
-
-class CutItemIs26(Rules):
-    """26: also if the items are no whole number of items"""
-
-    seen_by = recipe_rows(0, 28)
-
-    def flatten(self, steps, items, widths, displacements):
-        return Flat(26) if len(items) % ITEM_NUMBERS else super().flatten(steps, items, widths, displacements)
-
-
-class LastItemWraps(EmptyIsAllowed):
-    """28: the number of a step's last item wraps at 2^64, and items past the end are then left out"""
-
-    seen_by = recipe_rows(28)
-
-    def judged_step(self, step, typemaps):
-        beyond = step.a + step.b - 2**64
-        if step.kind in (INDEXED, SUBARRAY) and 0 < beyond < 1000:
-            step = replace(step, a=0, b=beyond)
-        return super().judged_step(step, typemaps)
+        whole = len(step.items) // ITEM_NUMBERS * ITEM_NUMBERS
+        return super().judged_step(replace(step, items=step.items[:whole]), typemaps)
 
 
 class MissingIsOne(Rules):
@@ -1851,203 +1720,6 @@ class BuiltOfTheEtype(Rules):
             first = step.a + len(items) // ITEM_NUMBERS if step.kind in (INDEXED, SUBARRAY) else step.a
             steps += [step.kind, EARLIER, name, first, step.b, step.c]
         return super().set_from_recipes(handle, displacement, etype, (tuple(steps), items + tuple(filetype[1])), representation)
-
-
-# Sets from a recipe over a basic width
-
-def over_width_rows(*refusals):
-    return {(SET_OVER_WIDTH, refusal) for refusal in refusals}
-
-
-class OtherEtype(Rules):
-    """a set over a width: another recipe of the etype; the base of the classes below"""
-
-    def etype(self, width):
-        """The steps of the etype's recipe."""
-
-    def set_over_width(self, handle, displacement, width, filetype, representation):
-        return self.set_from_recipes(handle, displacement, (self.etype(width), ()), filetype, representation)
-
-
-class AlwaysBytes(OtherEtype):
-    """a set over a width: the etype is always of width 1"""
-
-    seen_by = over_width_rows(0, 9, 27)
-
-    def etype(self, width):
-        return CONTIGUOUS, WIDTH, 1, 1, 0, 0
-
-
-class AlwaysWords(OtherEtype):
-    """a set over a width: the etype is always of width 4"""
-
-    seen_by = over_width_rows(0, 27)
-
-    def etype(self, width):
-        return CONTIGUOUS, WIDTH, 4, 1, 0, 0
-
-
-class SoManyBytes(OtherEtype):
-    """a set over a width: the etype is so many bytes"""
-
-    seen_by = over_width_rows(0, 27)
-
-    def etype(self, width):
-        return CONTIGUOUS, WIDTH, 1, width, 0, 0
-
-
-class SoManyCopies(OtherEtype):
-    """a set over a width: the etype has so many copies of the width"""
-
-    seen_by = over_width_rows(0)
-
-    def etype(self, width):
-        return CONTIGUOUS, WIDTH, width, width, 0, 0
-
-
-class EtypeExtentOne(OtherEtype):
-    """a set over a width: the extent of the etype is 1"""
-
-    seen_by = over_width_rows(0, 9)
-
-    def etype(self, width):
-        return CONTIGUOUS, WIDTH, width, 1, 0, 0, RESIZED, EARLIER, 0, 1, 0, 0
-
-
-class EtypeExtentEight(OtherEtype):
-    """a set over a width: the extent of the etype is 8"""
-
-    seen_by = over_width_rows(0)
-
-    def etype(self, width):
-        return CONTIGUOUS, WIDTH, width, 1, 0, 0, RESIZED, EARLIER, 0, 8, 0, 0
-
-
-class WidthOf32Bits(OtherEtype):
-    """a set over a width: the width by its low 32 bits"""
-
-    seen_by = over_width_rows(27)
-
-    def etype(self, width):
-        return CONTIGUOUS, WIDTH, width % 2**32, 1, 0, 0
-
-
-class NextWidth(OtherEtype):
-    """a set over a width: a width that is none of the four is the next one that is"""
-
-    seen_by = over_width_rows(27)
-
-    def etype(self, width):
-        return CONTIGUOUS, WIDTH, next((basic for basic in self.basic_widths if basic >= width), 8), 1, 0, 0
-
-
-class ZeroIsAByte(OtherEtype):
-    """a set over a width: a width of 0 is a byte"""
-
-    seen_by = over_width_rows(27)
-
-    def etype(self, width):
-        return CONTIGUOUS, WIDTH, width or 1, 1, 0, 0
-
-
-class WidthByTheSet(Rules):
-    """a set over a width: the set itself refuses a bad width"""
-
-    seen_by = over_width_rows(27)
-
-    def set_over_width(self, handle, displacement, width, filetype, representation):
-        widths, displacements = [0] * 256, [0] * 256
-        flat = self.flatten(*filetype, widths, displacements)
-        if flat.refusal:
-            return Answer(handle, flat.refusal)
-        result = Type(tuple(widths[:flat.entries]), tuple(displacements[:flat.entries]), flat.extent)
-        return self.set(handle, displacement, Type((width,), (0,), width), result, representation)
-
-
-class FiletypeBeforeTheWidth(Rules):
-    """a set over a width: the filetype's recipe first"""
-
-    seen_by = over_width_rows(27)
-
-    def set_over_width(self, handle, displacement, width, filetype, representation):
-        flat = self.flatten(*filetype, [0] * 256, [0] * 256)
-        if flat.refusal:
-            return Answer(handle, flat.refusal)
-        return super().set_over_width(handle, displacement, width, filetype, representation)
-
-
-class HandleBeforeTheWidth(Rules):
-    """a set over a width: check 1 before the width and the recipe"""
-
-    seen_by = over_width_rows(*range(26, 33))
-
-    def set_over_width(self, handle, displacement, width, filetype, representation):
-        if not self.handle_allowed(handle):
-            return Answer(handle, 1)
-        return super().set_over_width(handle, displacement, width, filetype, representation)
-
-
-class NameBeforeTheWidth(Rules):
-    """a set over a width: check 2 before the width and the recipe"""
-
-    seen_by = over_width_rows(*range(26, 33))
-
-    def set_over_width(self, handle, displacement, width, filetype, representation):
-        if representation != b"native" and self.handle_allowed(handle):
-            return Answer(handle, 2)
-        return super().set_over_width(handle, displacement, width, filetype, representation)
-
-
-class StepOfTheFiletype(Rules):
-    """a set over a width: a refused recipe names its type and its step"""
-
-    seen_by = over_width_rows(*range(26, 33))
-
-    def set_over_width(self, handle, displacement, width, filetype, representation):
-        answer = super().set_over_width(handle, displacement, width, filetype, representation)
-        flat = self.flatten(*filetype, [0] * 256, [0] * 256)
-        return replace(answer, numbers=(FILETYPE, flat.step or 0)) if answer.refusal >= 26 else answer
-
-
-class OverTheEtype(Rules):
-    """a set over a width: the filetype's basic widths are the etype's"""
-
-    seen_by = over_width_rows(18, 27)
-
-    def set_over_width(self, handle, displacement, width, filetype, representation):
-        steps = list(filetype[0])
-        for first in range(0, len(steps) // STEP_NUMBERS * STEP_NUMBERS, STEP_NUMBERS):
-            if steps[first + 1] == WIDTH:
-                steps[first + 2] = width
-        return super().set_over_width(handle, displacement, width, (tuple(steps), filetype[1]), representation)
-
-
-class DisplacementInEtypes(Rules):
-    """a set over a width: the view's displacement is counted in etypes"""
-
-    seen_by = over_width_rows(0)
-
-    def set_over_width(self, handle, displacement, width, filetype, representation):
-        return super().set_over_width(handle, displacement * width, width, filetype, representation)
-
-
-class WithoutItems(Rules):
-    """a set over a width: the filetype's recipe has no items"""
-
-    seen_by = over_width_rows(0)
-
-    def set_over_width(self, handle, displacement, width, filetype, representation):
-        return super().set_over_width(handle, displacement, width, (filetype[0], ()), representation)
-
-
-class PointerStays(Rules):
-    """a set over a width: the pointer stays"""
-
-    seen_by = over_width_rows(0)
-
-    def set_over_width(self, handle, displacement, width, filetype, representation):
-        answer = super().set_over_width(handle, displacement, width, filetype, representation)
-        return replace(answer, handle=replace(answer.handle, pointer=handle.pointer))
 
 
 RECIPE_MISREADINGS = tuple(found for found in list(globals().values())

@@ -8,9 +8,9 @@ from dataclasses import replace
 
 from entries import ETYPE, FILETYPE, MEGA
 from model import checksum
-from script_rows import SET_FROM_RECIPES, SET_OVER_WIDTH, handle_sum, made
+from script_rows import SET_FROM_RECIPES, handle_sum, made
 from scripts import (ALL_ONES, LARGEST, SMALLEST, Recipe, Shape, earlier, give_back, new_file, open_handle, place, read_at, recipe,
-                     record, reverse, seek, set_from_recipes, set_over_width, width, words, write_at)
+                     record, reverse, seek, set_from_recipes, width, words, write_at)
 
 FILL = 77
 R = Recipe()
@@ -285,19 +285,13 @@ def refusal_28(s):
         refused(s, R.subarray(dimensions, W4), 28)
         refused(s, R.contiguous(1, W2).subarray(dimensions), 28, 1)
     s.section = "recipe: 28, blocks and dimensions past the end of the items"
-    one, three, both = (2, 1, 0), (2, 1, 0, 3, 5, 0, 1, 0, 0), (2, 1, 0, 3, 2, 1, 1, 1, 0)  # `both` are blocks and dimensions
+    one, three = (2, 1, 0), (2, 1, 0, 3, 5, 0, 1, 0, 0)
     for blocks in (2, 3, 4, 5, 256, 257, 2**32, 2**32 + 1, 2**63, ALL_ONES):
         for kind in (3, 4):
             refused(s, Recipe((kind, 1, 4, 0, blocks, 0), one), 28)
     for first, blocks in [(0, 4), (1, 3), (2, 2), (3, 1), (4, 1), (3, ALL_ONES), (333, 1), (2**32, 1), (2**63, 1), (ALL_ONES, 1),
                           (ALL_ONES, 2), (ALL_ONES - 1, 5), (ALL_ONES, ALL_ONES)]:
         refused(s, Recipe((3, 1, 4, first, blocks, 0), three), 28)
-    for first, number in [(3, 1), (2, 2), (0, 4), (4, 2), (333, 2), (2**62, 3), (2**63 - 1, 2), (2**64 - 3, 3), (2**64 - 3, 4),
-                          (2**64 - 2, 3), (2**64 - 2, 4), (ALL_ONES, 1), (ALL_ONES, 2), (ALL_ONES, 3), (ALL_ONES, 4), (2, ALL_ONES),
-                          (ALL_ONES, ALL_ONES)]:
-        for kind in (3, 4):
-            refused(s, Recipe((kind, 1, 4, first, number, 0), both), 28)
-            refused(s, Recipe(WORD.steps + (kind, 2, 0, first, number, 0), both), 28, 1)
     for first in ((2**64 + 2) // 3, (2**65 + 1) // 3):  # three times as much is 2 and 1, modulo 2^64
         refused(s, Recipe((3, 1, 4, first, 1, 0), (1, 1, 1, 0, 0, 0)), 28)
         refused(s, Recipe((4, 1, 4, first, 1, 0), (1, 1, 1, 1, 0, 0)), 28)
@@ -309,80 +303,20 @@ def refusal_28(s):
             refused(s, Recipe((kind, 1, 4, 0, blocks, 0)), 28)
 
 
-BLOCKS = (1, 0, 9, 2, 3, 9, 1, 6, 9, 1, 8, 9)  # the third number of a block is none
-OF_BLOCKS = ((at(4, 0), 4), (at(4, 0, 12, 16), 20), (at(4, 0, 12, 16, 24), 28), (at(4, 0, 12, 16, 24, 32), 36))
-DIMENSIONS = (2, 1, 1, 3, 2, 1, 4, 2, 2, 5, 1, 0)
-OF_DIMENSIONS = ((at(4, 4), 8), (at(4, 16, 20), 24), (at(4, 72, 76, 88, 92), 96), (at(4, 360, 380, 440, 460), 480))
-
-
 def partial_items(s):
-    """The first numbers of four items, from none to all of them: a step is granted if all its items are whole."""
     s.section = "recipe: an item of which a part is there"
-    for kind, items, results in [(3, BLOCKS, OF_BLOCKS), (4, DIMENSIONS, OF_DIMENSIONS)]:
-        for there in range(13):
-            for used, result in enumerate(results, 1):
-                step = (kind, 1, 4, 0, used, 0)
-                new, later = Recipe(step, items[:there]), Recipe((1, 1, 2, 3, 0, 0, *step), items[:there])
-                if 3 * used <= there:
-                    granted(s, new, *result)
-                    granted(s, later, *result)
-                else:
-                    refused(s, new, 28)
-                    refused(s, later, 28, 1)
-
-
-def partial_items_later(s):
-    """An item that is not the first one, and items before it that are used too."""
-    s.section = "recipe: an item of which a part is there, from a later item on"
-    index, sub, item = (3, 1, 4, 1, 1, 0), (4, 1, 4, 1, 1, 0), (5, 5, 5)
-    for numbers in ((2,), (2, 1), (2, 0), (1, 0), (1, 1), (1,), (3, 2), (3, 3), (3, 1)):
-        for step in (index, sub):
-            refused(s, Recipe(step, item + numbers), 28)
-    granted(s, Recipe(index, item + (2, 0, 0)), at(4, 0, 4), 8)
-    granted(s, Recipe(index, item + (2, 0, 7)), at(4, 0, 4), 8)
-    granted(s, Recipe(sub, item + (3, 2, 0)), at(4, 0, 4), 12)
+    index, sub = (3, 1, 4, 1, 1, 0), (4, 1, 4, 1, 1, 0)
+    item = (5, 5, 5)
+    refused(s, Recipe(index, item), 28)
+    granted(s, Recipe(index, item + (2,)), at(4, 0, 4), 8)  # the displacement is 0
+    refused(s, Recipe(index, item + (2, 1)), 32)
+    granted(s, Recipe(index, item + (2, 0)), at(4, 0, 4), 8)
+    refused(s, Recipe(sub, item), 28)
+    refused(s, Recipe(sub, item + (3,)), 28)
+    granted(s, Recipe(sub, item + (3, 2)), at(4, 0, 4), 12)  # the start is 0
     granted(s, Recipe(sub, item + (3, 2, 1)), at(4, 4, 8), 12)
-    refused(s, Recipe(index, item + (2, 1, 0)), 32)
-    for there in (1, 2):
-        cut = (2, 1, 0, 2, 1)[:3 + there]
-        refused(s, Recipe((4, 1, 2, 0, 1, 0, 3, 2, 0, 1, 1, 0), cut), 28, 1)  # the whole one is used before
-        refused(s, Recipe((3, 1, 2, 1, 1, 0, 4, 1, 2, 0, 1, 0), cut), 28)  # and after
-        refused(s, Recipe((3, 1, 2, 0, 2, 0, 1, 1, 4, 1, 0, 0), cut), 28)  # no later step names this one
-        refused(s, Recipe((3, 1, 2, 1, 1, 0) * 32, cut), 28)
-        refused(s, Recipe(chain(31).steps + (4, 2, 30, 1, 1, 0), cut), 28, 31)
-        for first, number in [(2, 1), (1, 2), (0, 3), (0, ALL_ONES), (1, ALL_ONES)]:
-            for kind in (3, 4):
-                refused(s, Recipe((kind, 1, 2, first, number, 0), cut), 28)
-
-
-def partial_items_unused(s):
-    s.section = "recipe: an item of which a part is there, used by no step"
-    good = ((R.contiguous(2, W4), at(4, 0, 4), 8), (R.indexed([(1, 0), (1, 2)], W4), at(4, 0, 8), 12),
-            (R.subarray([(3, 1, 2)], W4), at(4, 8), 12), (R.vector(2, 1, 2, W1), at(1, 0, 2), 3),
-            (R.subarray([(2, 1, 0)], W1).indexed([(1, 1), (1, 0)]), at(1, 2, 0), 4), (R.resized(9, W8), at(8, 0), 9))
-    for junk in ((0,), (1,), (ALL_ONES,), (0, 0), (1, 0), (1, 1), (0, 5), (ALL_ONES, ALL_ONES)):
-        for new, entries, extent in good:
-            granted(s, Recipe(new.steps, new.items + junk), entries, extent)
-
-
-def partial_items_and_others(s):
-    """Only 26 and 27 come before the 28 of an item of which a part is there."""
-    s.section = "recipe: an item of which a part is there, and other refusals"
-    bad = width(3)
-    for there in (1, 2):
-        rows = [(27, R.indexed([(1, 0)], bad)), (27, R.subarray([(2, 1, 0)], bad)), (27, R.step(6, W4, 0, 1, 0, [(1, 1, 0)])),
-                (28, R.subarray([(1, 1, 1), (2, 1, 0)], W4)), (28, R.subarray([(2, 1, 0)] * 5, W4)), (28, R.subarray([(2, 3, 0)], W4)),
-                (28, R.indexed([(300, 0)], W4)), (28, R.indexed([(300, 0), (1, 0)], W4)), (28, R.indexed([(1, -1)], W4)),
-                (28, R.indexed([(1, MEGA)], W4)), (28, R.subarray([(MEGA + 1, 1, 0)], W4)), (28, R.indexed([(1, 1)], W4)),
-                (28, R.subarray([(300, 300, 0)], W4)), (28, R.indexed([(1, -1), (1, 0)], W4)), (28, R.indexed([(0, 0)], W4))]
-        for refusal, new in rows:
-            refused(s, Recipe(new.steps, new.items[:there - 3]), refusal)
-            refused(s, Recipe(new.steps, new.items[:there - 3]), refusal, 0, (0, 0))
-        for count in (0, 33):
-            refused(s, Recipe(chain(count).steps, (1, 0, 0)[:there]), 26, None)
-
-
-def shared_items(s):
+    refused(s, Recipe((4, 1, 4, 0, 2, 0), (2, 1, 1, 3)), 28)
+    granted(s, Recipe((4, 1, 4, 0, 2, 0), (2, 1, 1, 3, 1)), at(4, 12), 24)
     s.section = "recipe: items used by several steps, and in other places"
     items = (9, 9, 9, 2, 1, 0, 3, 2, 1, 9)
     new = Recipe((3, 1, 1, 1, 1, 0, 3, 2, 0, 1, 2, 0, 4, 1, 2, 1, 2, 0), items)  # at 1 and 2; (2 at 1, 3 at 2); 1 of 2, 2 of 3 from 1 on
@@ -711,10 +645,9 @@ def bodies(s):
     s.add(record(46, 2, 2, 9, 6, 0, 1, 1, 4), 28, c=1, d=0, lent1=checksum([9, 9]), lent2=checksum([9, 9]))
     s.add(record(46, 2, 2, 9, 6, 0), 27, c=1, d=0)
     s.add(record(46, 2, 2, 9, 12, 0, 1, 1, 4, 1, 0, 0), 27, c=1, d=1)
-    s.add(record(46, 2, 2, 9, 6, 3, 3, 1, 4, 0, 1, 0, 1), a=1, b=4, **lists)  # the body ends in an item, which is counted whole
-    s.add(record(46, 2, 2, 9, 6, 3, 4, 1, 4, 0, 1, 0, 1, 1), a=1, b=4, **lists)
-    for kind, counted in [(3, 1), (3, 2), (4, 1), (4, 2)]:  # so many numbers of the item are counted
-        s.add(record(46, 2, 2, 9, 6, counted, kind, 1, 4, 0, 1, 0, 1, 1, 0), 28, c=1, d=0)
+    s.add(record(46, 2, 2, 9, 6, 3, 3, 1, 4, 0, 1, 0, 1), a=1, b=4, **lists)  # an item of which two numbers are not there
+    s.add(record(46, 2, 2, 9, 6, 2, 4, 1, 4, 0, 1, 0, 1, 1), a=1, b=4, **lists)
+    s.add(record(46, 2, 2, 9, 6, 1, 4, 1, 4, 0, 1, 0, 1, 1, 0), 28, c=1, d=0)  # one number of the item is counted
     s.add(record(46, 2, 2, 9, 6, ALL_ONES, 3, 1, 4, 0, 1, 0, 1), a=1, b=4, **lists)
     s.add(record(46, 2, 2, 9, 1001, 0, *chain(32).steps), 26)
     s.add(record(46, 2, 2, 9, ALL_ONES, 0, *chain(32).steps), 26)
@@ -726,11 +659,10 @@ def bodies(s):
         s.add(recipe(R.contiguous(0, W4), (length, length), 8), 28, c=1, d=0, lent1=checksum([8] * 300), lent2=checksum([8] * 300))
     s.section = "recipe: 1,000 numbers of items"
     items = (1, 0, 0) * 332 + (2, 0, 0) + (3, 5, 5)
-    none = {"c": 1, "lent1": checksum([0] * 9), "lent2": checksum([0] * 9)}
-    two = {"a": 2, "b": 8, "lent1": checksum([4, 4] + [0] * 7), "lent2": checksum([0, 4] + [0] * 7)}
-    for count, is_whole in [(996, 0), (997, 0), (998, 0), (999, 1), (1000, 1), (1001, 1), (1002, 1), (ALL_ONES, 1)]:
-        s.add(record(46, 9, 9, 0, 6, count, 3, 1, 4, 332, 1, 0, *items), 0 if is_whole else 28, **(two if is_whole else none))
-        s.add(record(46, 9, 9, 0, 6, count, 3, 1, 4, 332, 2, 0, *items), 28, **none)  # of item 333 one number is counted at the most
+    for count, blocks, refusal in [(999, 2, 28), (1000, 2, 0), (1001, 2, 0), (1002, 2, 0), (ALL_ONES, 2, 0), (1002, 3, 28)]:
+        s.add(record(46, 9, 9, 0, 6, count, 3, 1, 4, 332, blocks, 0, *items), refusal, a=0 if refusal else 5, b=0 if refusal else 12,
+              c=int(refusal > 0), lent1=checksum([0] * 9 if refusal else [4] * 5 + [0] * 4),
+              lent2=checksum([0] * 9 if refusal else [0, 4, 0, 4, 8] + [0] * 4))  # the displacement of item 333 is past the end
     s.section = "recipe: the slots stay"
     for slot in range(4):
         s.open(slot, 1 + slot % 3)
@@ -748,14 +680,10 @@ PAIR_SHAPE = Shape((2, 2), (0, 4), 8, (0,), 8)
 
 
 def set_granted(s, slot, mode, etype, filetype, shape):
-    view_granted(s, slot, mode, set_from_recipes(slot, shape.displacement, etype, filetype), shape)
-
-
-def view_granted(s, slot, mode, new, shape):
-    """The set, which is this record, the view, and the view given back."""
+    """The set, the view, and the view given back."""
     s.open(slot, mode)
     s.add(seek(slot, 0, 5, 0))
-    s.add(new, a=0, b=0, pointer=0, view=handle_sum(mode, shape))
+    s.add(set_from_recipes(slot, shape.displacement, etype, filetype), a=0, b=0, pointer=0, view=handle_sum(mode, shape))
     request = shape.request()
     lists = (request.etype_widths, request.etype_displacements, request.filetype_widths, request.filetype_displacements)
     lent = {f"lent{i}": checksum(one + (FILL,)) for i, one in enumerate(lists, 1)}
@@ -766,8 +694,6 @@ def view_granted(s, slot, mode, new, shape):
 GRANTED_SETS = (
     ("P1", WORD, R.subarray([(3, 1, 1)], W4), words((4,), 12, 100), [104, 116, 128]),
     ("P1 with items in both recipes", R.indexed([(1, 0)], W4), R.subarray([(3, 1, 1)], W4), words((4,), 12), [4, 16, 28]),
-    ("items of which a part is there, unused", Recipe(WORD.steps, (1,)), Recipe((4, 1, 4, 0, 1, 0), (3, 1, 1, 2, 2)), words((4,), 12),
-     [4, 16, 28]),
     ("P12", R.contiguous(1, W1), R.indexed([(1, 0), (1, 3)], W1).resized(2), Shape((1,), (0,), 1, (0, 3), 2), [0, 3, 2, 5]),
     ("2 of 3 rows, 2 of 4 columns", WORD, R.subarray([(3, 2, 1), (4, 2, 1)], W4), words((20, 24, 36, 40), 48), [20, 24, 36, 40, 68]),
     ("a column", WORD, R.subarray([(3, 3, 0), (4, 1, 2)], W4), words((8, 24, 40), 48, 7), [15, 31, 47, 63]),
@@ -805,16 +731,13 @@ def sets_granted(s):
     s.places(1, [0, 4, 4, 8, 12])
 
 
-CUT_BLOCK = Recipe((3, 1, 4, 0, 1, 0), (1, 0))
-BAD_RECIPES = LATE + ((26, R), (32, R.indexed([(1, 1)], W4)), (28, CUT_BLOCK), (28, Recipe((4, 1, 4, 0, 1, 0), (1, 1))))
-
-
 def sets_refused(s):
     s.section = "set from recipes: the etype's recipe, then the filetype's"
     s.open(0, 3)
     s.add(seek(0, 0, 7, 0), pointer=7)
     stays = {"pointer": 7, "view": handle_sum(3, Shape((1,), (0,), 1, (0,), 1))}
-    for refusal, new in BAD_RECIPES:
+    bad = LATE + ((26, R), (32, R.indexed([(1, 1)], W4)))
+    for refusal, new in bad:
         s.add(set_from_recipes(0, 0, new, WORD), refusal, **stays)
         s.add(set_from_recipes(0, 0, WORD, new), refusal, **stays)
         s.add(set_from_recipes(0, -1, WORD, new, b"nativ"), refusal, **stays)  # with 2 and 3
@@ -877,163 +800,12 @@ def set_bodies(s):
     items = (1, 0, 0) * 333
     for count in (1000, 1001, 1002, ALL_ONES):  # the filetype's steps stand right after 1,000 numbers
         s.add(record(SET_FROM_RECIPES, 3, 0, 6, count, 6, 0, 3, 1, 4, 332, 1, 0, *items, 1, 1, 1, 4, 2, 0, 0, tail=b"native"), **two)
-        s.add(record(SET_FROM_RECIPES, 3, 0, 6, 0, 6, count, *word, 3, 1, 4, 331, 2, 0, *items, 2, tail=b"native"), 10, a=FILETYPE, b=1)
-        s.add(record(SET_FROM_RECIPES, 3, 0, 6, 0, 6, count, *word, 3, 1, 4, 331, 3, 0, *items, 2, tail=b"native"), 28)
+        s.add(record(SET_FROM_RECIPES, 3, 0, 6, 0, 6, count, *word, 3, 1, 4, 331, 3, 0, *items, 2, tail=b"native"), 10, a=FILETYPE, b=1)
     s.add(record(SET_FROM_RECIPES, 3, 0, 6, 0, 6, 1000, *word, 1, 1, 4, 2, 0, 0, *items, 7, tail=b"native"), **two)
     s.add(reverse(3, 5), a=1, b=1, c=1)
     s.add(record(SET_FROM_RECIPES, 3, 0, 1001, 0, 6, 0, *chain(166).steps, *word, tail=b"native"), 26)
 
 
-# Sets from a recipe over a basic width
-
-WIDTHS = (1, 2, 4, 8)
-
-
-def over_width_types(w):
-    """Filetypes of this width, each with the origins and the extent, counted in elements."""
-    of = width(w)
-    yield R.contiguous(1, of), (0,), 1
-    yield R.contiguous(3, of), (0, 1, 2), 3
-    yield R.subarray([(3, 1, 1)], of), (1,), 3
-    yield R.vector(2, 2, 3, of), (0, 1, 3, 4), 5
-    yield R.indexed([(1, 0), (2, 3)], of), (0, 3, 4), 5
-    yield Recipe((3, 1, w, 0, 1, 0), (2, 0, 0, 1)), (0, 1), 2  # an item of which a part is there is not used
-    yield R.vector(2, 1, 2, of).resized(4 * w), (0, 2), 4
-    yield R.contiguous(2, of).subarray([(2, 1, 1)]), (2, 3), 4
-    yield R.subarray([(2, 1, 1), (3, 2, 1)], of), (4, 5), 6
-    yield R.indexed([(1, 0), (1, 3)], of).resized(2 * w), (0, 3), 2  # as P12
-    yield R.contiguous(64, of), tuple(range(64)), 64
-
-
-def over_widths_granted(s):
-    for w in WIDTHS:
-        s.section = f"set over the width {w}"
-        for filetype, origins, extent in over_width_types(w):
-            for slot, mode, displacement in ((0, 1, 0), (1, 2, 2**40), (2, 3, 100)):
-                shape = Shape((w,), (0,), w, tuple(w * origin for origin in origins), w * extent, displacement)
-                view_granted(s, slot, mode, set_over_width(slot, displacement, w, filetype), shape)
-            s.places(2, [100 + w * origin for origin in origins[:5]])
-            s.add(place(2, len(origins)), a=100 + w * (extent + origins[0]))
-        s.section = f"set over the width {w}: for reading alone"
-        s.open(1, 1)
-        shape = Shape((w,), (0,), w, (0, w, w, 2 * w), 3 * w)
-        s.add(set_over_width(1, 0, w, R.vector(2, 2, 1, width(w))), pointer=0, view=handle_sum(1, shape))
-        s.places(1, [0, w, w, 2 * w, 3 * w])
-    s.section = "set over the width 2: reads and writes"
-    content = made(9, 60)
-    s.add(new_file(0, 60, 60, 9))
-    shape = Shape((2,), (0,), 2, (10, 12, 18, 20), 24)
-    view_granted(s, 2, 3, set_over_width(2, 0, 2, R.subarray([(3, 2, 1), (4, 2, 1)], W2)), shape)
-    s.add(read_at(2, 0, 0, 4, 9, 3), count=4, lent1=checksum(content[10:14] + content[18:22] + b"\x03"))
-    s.write(write_at(2, 0, 2, 2, 4), 2, 60, content[:18] + made(90, 4) + content[22:])
-    s.owner(2, 21, (3, 1))
-    s.owner(2, 17)
-    s.add(place(2, 4), a=34)
-
-
-def over_widths_refused(s):
-    s.section = "set over a basic width: the width, then the filetype's recipe"
-    s.open(0, 3)
-    s.add(seek(0, 0, 7, 0), pointer=7)
-    stays = {"pointer": 7, "view": handle_sum(3, Shape((1,), (0,), 1, (0,), 1))}
-    for w in BAD_WIDTHS:
-        for filetype in (WORD, R.contiguous(1, W1), R.contiguous(1, width(w)), R):
-            s.add(set_over_width(0, 0, w, filetype), 27, **stays)
-    for refusal, new in BAD_RECIPES:
-        for w in (0, 3, 16):
-            s.add(set_over_width(0, 0, w, new), 27, **stays)
-            s.add(set_over_width(0, -1, w, new, b"nativ"), 27, **stays)
-        for w in WIDTHS:
-            s.add(set_over_width(0, 0, w, new), refusal, **stays)
-        s.add(set_over_width(0, -1, 4, new, b"nativ"), refusal, **stays)  # with 2 and 3
-    s.section = "set over a basic width: check 1 comes after the width and the recipe"
-    s.add(open_handle(1, 9), 16)
-    s.add(set_over_width(1, 0, 4, WORD), 1, a=0, b=0)
-    s.add(set_over_width(1, -1, 4, R.indexed([(1, 1), (1, 0)], W4), b""), 1, a=0, b=0)
-    s.add(set_over_width(1, 0, 1, R.contiguous(65, W1)), 1)
-    for w in (0, 3, 16):
-        s.add(set_over_width(1, 0, w, WORD), 27)
-        s.add(set_over_width(1, 0, w, R, b""), 27)
-    for refusal, new in BAD_RECIPES:
-        s.add(set_over_width(1, 0, 4, new), refusal)
-    s.section = "set over a basic width: which slot"
-    s.add(set_over_width(4, 0, 4, WORD), pointer=0, view=handle_sum(3, words((0,), 4)))  # slot 0
-    s.add(set_over_width(ALL_ONES, 0, 3, WORD), 27)
-
-
-def over_widths_own_refusals(s):
-    s.section = "set over a basic width: the set's own refusals"
-    s.open(0, 3)
-    s.add(seek(0, 0, 7, 0), pointer=7)
-    stays = {"pointer": 7, "view": handle_sum(3, Shape((1,), (0,), 1, (0,), 1))}
-    for w in WIDTHS:
-        for refusal, entry, filetype, displacement, name in over_width_refusals(w):
-            kind = FILETYPE if refusal in (7, 18, 9, 10) else 0
-            s.add(set_over_width(0, displacement, w, filetype, name), refusal, a=kind, b=entry, **stays)
-
-
-def over_width_refusals(w):
-    """Refusal, entry, and the set over this width: filetype, displacement and representation."""
-    native, of = b"native", width(w)
-    one, fall = R.contiguous(1, of), R.indexed([(2, 1), (1, 0)], of)
-    for name in (b"nativ", b"native\0", b"Native", b""):
-        yield 2, 0, one, 0, name
-        yield 2, 0, fall, -1, name
-    for displacement in (-1, 2**40 + 1, LARGEST, SMALLEST):
-        yield 3, 0, one, displacement, native
-        yield 3, 0, R.contiguous(65, of), displacement, native
-    for entries in (65, 128, 256):
-        yield 4, 0, R.contiguous(entries, of), 0, native
-    yield 7, 2, fall, 0, native
-    yield 7, 1, R.indexed([(1, 3), (1, 2), (1, 1)], of).resized(9), 0, native
-    for other in WIDTHS:
-        if other != w:
-            yield 18, 0, R.contiguous(1, width(other)), 0, native
-            yield 18, 0, R.contiguous(8, width(other)), 0, native
-            yield 18, 0, R.resized(w, width(other)).contiguous(2), 0, native
-            yield 18, 0, R.vector(2, 2, 1, width(other)), 0, native  # with 10
-    if w > 1:  # with an extent of 1 there is no 9
-        yield 9, 0, R.resized(1, of).subarray([(3 * w, 1, 1)]), 0, native
-        yield 9, 1, R.resized(1, of).indexed([(1, 0), (1, 2 * w + 1)]).resized(4 * w), 0, native
-        yield 9, 0, one.resized(2 * w - 1), 0, native
-        yield 10, 0, one.resized(w - 1), 0, native
-        yield 10, 1, R.resized(1, of).contiguous(2).resized(w + 1), 0, native
-    yield 10, 2, R.vector(2, 2, 1, of), 0, native
-    yield 10, 1, R.contiguous(2, of).resized(w), 0, native
-    yield 10, 1, R.vector(2, 1, 2, of).resized(2 * w), 0, native
-
-
-def over_width_bodies(s):
-    s.section = "set over a basic width: bodies"
-    s.open(3, 3)
-    word, items, tag = WORD.steps, (1, 0, 0) * 333, SET_OVER_WIDTH
-    s.add(record(tag), 27)
-    s.add(record(tag, 3), 27)
-    s.add(record(tag, 3, 4, 0, 6, 0, *word, tail=b"native"), 27)
-    s.add(record(tag, 3, 0, 4), 26)
-    s.add(record(tag, 3, 0, 4, 6), 27)  # the filetype's step is all 0
-    s.add(record(tag, 3, 0, 4, 6, 0, *word), 2)
-    s.add(record(tag, 3, 0, 4, 6, 0, 1, 1, 4, 2), 2)  # b and c are not there
-    s.add(record(tag, 3, 0, 4, 6, 3, 3, 1, 4, 0, 1, 0, 2), 2)
-    s.add(record(tag, 3, 0, 4, 5, 0, *word[:5], tail=b"native"), 26)
-    s.add(record(tag, 3, 0, 4, 7, 0, *word, 0, tail=b"native"), 26)
-    s.add(record(tag, 3, 5, 4, 6, 0, *word, tail=b"native"), pointer=0, view=handle_sum(3, words((0,), 4, 5)))
-    s.add(record(tag, 7, 6, 4, 6, 0, *word, tail=b"native"), pointer=0, view=handle_sum(3, words((0,), 4, 6)))  # slot 3
-    for counted in (1, 2):
-        s.add(record(tag, 3, 0, 4, 6, counted, 3, 1, 4, 0, 1, 0, *(1, 0)[:counted], tail=b"native"), 28)
-        s.add(record(tag, 3, 0, 4, 6, counted, *word, *(1, 0)[:counted], tail=b"native"), pointer=0, view=handle_sum(3, words((0,), 4)))
-    two = {"pointer": 0, "view": handle_sum(3, words((0, 4), 8))}
-    s.add(record(tag, 3, 0, 4, 6, 999, 1, 1, 4, 2, 0, 0, *items, 7, tail=b"native"), 2)
-    for count in (1000, 1001, 1002, ALL_ONES):  # the representation stands right after 1,000 numbers
-        s.add(record(tag, 3, 0, 4, 6, count, 1, 1, 4, 2, 0, 0, *items, 7, tail=b"native"), **two)
-        s.add(record(tag, 3, 0, 4, 6, count, 3, 1, 4, 331, 2, 0, *items, 2, tail=b"native"), 10, a=FILETYPE, b=1)
-        s.add(record(tag, 3, 0, 4, 6, count, 3, 1, 4, 331, 3, 0, *items, 2, tail=b"native"), 28)
-        s.add(record(tag, 3, 0, 4, count, 0, *chain(166).steps, 1, 1, 1, 4, tail=b"native"), 26)
-    s.add(reverse(3, 5), a=1, b=1, c=1)
-
-
 RECIPES = (contiguous_and_vector, indexed_and_resized, subarrays, markers, markers_below_zero, naming, refusal_27, refusal_28,
-           partial_items, partial_items_later, partial_items_unused, partial_items_and_others, shared_items, refusal_29, refusal_30,
-           counts_that_wrap, ends_at_the_limit, extents_at_the_limit, products_that_wrap, refusal_32, refusal_33, pairs_in_a_step,
-           pairs_of_steps, bodies, sets_granted, sets_refused, set_bodies, over_widths_granted, over_widths_refused,
-           over_widths_own_refusals, over_width_bodies)
+           partial_items, refusal_29, refusal_30, counts_that_wrap, ends_at_the_limit, extents_at_the_limit, products_that_wrap, refusal_32,
+           refusal_33, pairs_in_a_step, pairs_of_steps, bodies, sets_granted, sets_refused, set_bodies)

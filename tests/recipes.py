@@ -44,10 +44,9 @@ class Making:
     items: tuple
 
     def item(self, number):
-        """The three numbers of this item; 0, 0, 0 if the list does not hold all of them."""
+        """The three numbers of this item; those that are looked for past the end are 0."""
         first = ITEM_NUMBERS * number
-        found = self.items[first:first + ITEM_NUMBERS]
-        return found if len(found) == ITEM_NUMBERS else (0,) * ITEM_NUMBERS
+        return tuple(self.items[i] if i < len(self.items) else 0 for i in range(first, first + ITEM_NUMBERS))
 
     def own_items(self):
         """The blocks of an indexed step, or the dimensions of a subarray, one after the other: there may be 2^64 - 1 of them."""

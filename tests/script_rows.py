@@ -6,9 +6,8 @@ from model import checksum, file_bytes
 from scripts import (Shape, end, file_record, fill_up, give_back, open_handle, place, read_at, read_here, reverse, seek, set_view, words,
                      write_at, write_here)
 
-SET, RECIPE, SET_FROM_RECIPES, SET_OVER_WIDTH = 36, 46, 47, 48  # tags
-SETS = (SET, SET_FROM_RECIPES, SET_OVER_WIDTH)
-NAMING = {RECIPE: ("a", "b", "c", "d"), **{tag: ("a", "b") for tag in SETS}}  # what every row of such a record states
+SET, RECIPE, SET_FROM_RECIPES = 36, 46, 47  # tags
+NAMING = {SET: ("a", "b"), SET_FROM_RECIPES: ("a", "b"), RECIPE: ("a", "b", "c", "d")}  # what every row of such a record states
 BYTES = Shape((1,), (0,), 1, (0,), 1)  # the default view
 
 

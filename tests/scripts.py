@@ -2,7 +2,7 @@
 
 from dataclasses import dataclass
 
-from model import Body, recipe_record, recipes_record, set_record, width_record
+from model import Body, recipe_record, recipes_record, set_record
 from recipes import (CONTIGUOUS, EARLIER, INDEXED, ITEM_NUMBERS, RESIZED, STEP_NUMBERS, SUBARRAY, VECTOR, WIDTH, making, signed)
 
 LARGEST, SMALLEST = 2**63 - 1, -2**63  # signed numbers
@@ -189,11 +189,6 @@ def set_from_recipes(slot, displacement, etype, filetype, representation=b"nativ
     return record(47, slot, displacement, *map(len, lists), *(x for one in lists for x in one), tail=representation)
 
 
-def set_over_width(slot, displacement, w, filetype, representation=b"native"):
-    lists = (filetype.steps, filetype.items)
-    return record(48, slot, displacement, w, *map(len, lists), *(x for one in lists for x in one), tail=representation)
-
-
 NAMES = {
     32: ("file", "file length size seed"),
     33: ("file record", "file size"),
@@ -211,7 +206,6 @@ NAMES = {
     45: ("reverse lookup", "slot byte"),
     46: ("recipe", ""),
     47: ("set from recipes", ""),
-    48: ("set from a recipe over a basic width", ""),
 }
 LINE = ("tag refusal count a b c d e pointer view size0 sum0 size1 sum1 lent1 lent2 lent3 lent4").split()
 
@@ -219,7 +213,7 @@ LINE = ("tag refusal count a b c d e pointer view size0 sum0 size1 sum1 lent1 le
 def decode(tag, data):
     """The record in words."""
     body, (name, fields) = Body(data), NAMES[tag]
-    whole = {34: decode_forged, 36: decode_set, 46: decode_recipe, 47: decode_recipes, 48: decode_over_width}
+    whole = {34: decode_forged, 36: decode_set, 46: decode_recipe, 47: decode_recipes}
     if tag in whole:
         return f"{name}: {whole[tag](body)}"
     shown = [f"{one.rstrip('*')} {body.signed(i) if one.endswith('*') else body.number(i)}" for i, one in enumerate(fields.split())]
@@ -242,7 +236,7 @@ def decode_set(body):
 
 MEANINGS = {46: {"a": "entries", "b": "extent", "c": "is a step at fault", "d": "step at fault"},
             47: {"a": "type named", "b": "entry named"}}
-MEANINGS[36] = MEANINGS[48] = MEANINGS[47]
+MEANINGS[36] = MEANINGS[47]
 
 
 def in_words(tag, name):
@@ -286,10 +280,4 @@ def decode_recipe(body):
 def decode_recipes(body):
     new = recipes_record(body)
     return (f"slot {body.number(0)}, displacement {new.displacement}, etype [{decode_steps(*new.etype)}], "
-            f"filetype [{decode_steps(*new.filetype)}], representation {new.representation!r}")
-
-
-def decode_over_width(body):
-    new = width_record(body)
-    return (f"slot {body.number(0)}, displacement {new.displacement}, width {new.width}, "
             f"filetype [{decode_steps(*new.filetype)}], representation {new.representation!r}")

@@ -1,18 +1,18 @@
 -- What flattening left is what a set is lent: the front of both lists, and the extent.
-use mathlib.Core.List.{List, [], ◌∷◌}
+use mathlib.Core.List.{List, [], ◌∷◌, ◌++◌}
 use lib.ListN.{length-append, length-map}
 use lib.Seq.{take-append_seam}
-use Rattle.laws.proofs.Prelude.{ℕ, ◌≤◌, ◌≡◌, ◌≢◌, sym, ap, ◌∙◌, arith, length, take, drop, length-take-le, ℤ, pos, granted, granted_yes, to_z, of_z, to_z-of_z, w64}
+use Rattle.laws.proofs.Prelude.{ℕ, ◌+◌, ◌≤◌, ◌≡◌, ◌≢◌, refl, sym, ap, ◌∙◌, arith, length, take, drop, length-drop, length-take-le, ℤ, pos, granted, granted_yes, to_z, of_z, to_z-of_z, w64}
 use Rattle.view.specs.Types.{PaperType, view_of_lists}
 use Rattle.file.specs.declared.Handle.{Handle}
 use Rattle.file.specs.declared.SetViewAnswer.{SetViewAnswer}
-use Rattle.recipe_types.specs.Typemaps.{widths, displacements, extent}
+use Rattle.recipe_types.specs.Typemaps.{Typemap, widths, displacements, extent}
 use Rattle.recipe_types.specs.Recipes.{Recipe, recipe_of, recipe_refusal, meaning, over}
 use Rattle.recipe.specs.declared.Flattened.{Flattened}
 use Rattle.recipe.specs.Flattening.{flatten_answer, FlattenDone}
 use Rattle.recipe.proofs.Flattening.{granted_fits}
 use Rattle.claim_calls.specs.Calls.{ViewSet}
-use Rattle.claim_recipe.specs.FlattenThenSet.{type_meant, width_recipe, recipe_refused, FiletypeSet, RecipesSet}
+use Rattle.claim_recipe.specs.FlattenThenSet.{type_meant, view_meant, width_recipe, recipe_refused, FiletypeSet, RecipesSet}
 
 -- ---- a list put at the front of another
 
@@ -83,31 +83,31 @@ refusal_is r ws ws' ds ds' a d = ap (λ q. q.refusal) d.answer
 pub filetype_refused : (h : Handle) (representation : List ℕ) (d : ℤ) (e : PaperType) (r : Recipe) (ws ws' : List ℕ) (ds ds' : List ℤ) (a : Flattened) (s : SetViewAnswer) → FlattenDone r ws ws' ds ds' a → length ws ≡ 256 → length ds ≡ 256 → a.refusal ≢ 0 → s ≡ recipe_refused a.refusal h → FiletypeSet h representation d e r s
 filetype_refused h representation d e r ws ws' ds ds' a s f lw ld n is =
     let q : a.refusal ≡ recipe_refusal r 256 256 = rw (lw, ld) at (refusal_is r ws ws' ds ds' a f) in
-    record { refused = λ z. is ∙ ap (λ k. recipe_refused k h) q; granted = λ z. absurd (n (q ∙ z)) }
+    record { refused = λ z. is ∙ ap (λ k. recipe_refused k h) q; judged = λ z. absurd (n (q ∙ z)) }
 
-pub filetype_granted : (h : Handle) (representation : List ℕ) (d d' : ℤ) (ew : List ℕ) (ed : List ℤ) (ex ex' fx : ℤ) (r : Recipe) (ws ws' : List ℕ) (ds ds' : List ℤ) (a : Flattened) (s : SetViewAnswer) → FlattenDone r ws ws' ds ds' a → length ws ≡ 256 → length ds ≡ 256 → a.refusal ≡ 0 → ViewSet h representation (view_of_lists d' ew ed ex' (take a.entries ws') (take a.entries ds') fx) s → d' ≡ d → ex' ≡ ex → fx ≡ to_z w64 (of_z w64 a.extent) → FiletypeSet h representation d (record { widths = ew; displacements = ed; extent = ex }) r s
+pub filetype_judged : (h : Handle) (representation : List ℕ) (d d' : ℤ) (ew : List ℕ) (ed : List ℤ) (ex ex' fx : ℤ) (r : Recipe) (ws ws' : List ℕ) (ds ds' : List ℤ) (a : Flattened) (s : SetViewAnswer) → FlattenDone r ws ws' ds ds' a → length ws ≡ 256 → length ds ≡ 256 → a.refusal ≡ 0 → ViewSet h representation (view_of_lists d' ew ed ex' (take a.entries ws') (take a.entries ds') fx) s → d' ≡ d → ex' ≡ ex → fx ≡ to_z w64 (of_z w64 a.extent) → FiletypeSet h representation d (record { widths = ew; displacements = ed; extent = ex }) r s
 unfolding type_meant
-filetype_granted h representation d d' ew ed ex ex' fx r ws ws' ds ds' a s f lw ld z v ed' ee ef =
+filetype_judged h representation d d' ew ed ex ex' fx r ws ws' ds ds' a s f lw ld z v ed' ee ef =
     let q : a.refusal ≡ recipe_refusal r 256 256 = rw (lw, ld) at (refusal_is r ws ws' ds ds' a f) in
     let x : fx ≡ extent (meaning r) = ef ∙ extent_read r ws ws' ds ds' a f z in
     record {
       refused = λ n. absurd (n (sym q ∙ z));
-      granted = λ _. rw (ed', ee, x, widths_same r ws ws' ds ds' a f z, displacements_same r ws ws' ds ds' a f z) at v;
+      judged = λ _. rw (ed', ee, x, widths_same r ws ws' ds ds' a f z, displacements_same r ws ws' ds ds' a f z) at v;
     }
 
 pub recipes_refused : (h : Handle) (representation : List ℕ) (d : ℤ) (e f : Recipe) (ws ws' : List ℕ) (ds ds' : List ℤ) (a : Flattened) (s : SetViewAnswer) → FlattenDone e ws ws' ds ds' a → length ws ≡ 256 → length ds ≡ 256 → a.refusal ≢ 0 → s ≡ recipe_refused a.refusal h → RecipesSet h representation d e f s
 recipes_refused h representation d e f ws ws' ds ds' a s k lw ld n is =
     let q : a.refusal ≡ recipe_refusal e 256 256 = rw (lw, ld) at (refusal_is e ws ws' ds ds' a k) in
-    record { refused = λ z. is ∙ ap (λ m. recipe_refused m h) q; granted = λ z. absurd (n (q ∙ z)) }
+    record { refused = λ z. is ∙ ap (λ m. recipe_refused m h) q; filetype = λ z. absurd (n (q ∙ z)) }
 
-pub recipes_granted : (h : Handle) (representation : List ℕ) (d d' ex : ℤ) (e f : Recipe) (ws ws' : List ℕ) (ds ds' : List ℤ) (a : Flattened) (s : SetViewAnswer) → FlattenDone e ws ws' ds ds' a → length ws ≡ 256 → length ds ≡ 256 → a.refusal ≡ 0 → FiletypeSet h representation d' (record { widths = take a.entries ws'; displacements = take a.entries ds'; extent = ex }) f s → d' ≡ d → ex ≡ to_z w64 (of_z w64 a.extent) → RecipesSet h representation d e f s
+pub recipes_judged : (h : Handle) (representation : List ℕ) (d d' ex : ℤ) (e f : Recipe) (ws ws' : List ℕ) (ds ds' : List ℤ) (a : Flattened) (s : SetViewAnswer) → FlattenDone e ws ws' ds ds' a → length ws ≡ 256 → length ds ≡ 256 → a.refusal ≡ 0 → FiletypeSet h representation d' (record { widths = take a.entries ws'; displacements = take a.entries ds'; extent = ex }) f s → d' ≡ d → ex ≡ to_z w64 (of_z w64 a.extent) → RecipesSet h representation d e f s
 unfolding type_meant
-recipes_granted h representation d d' ex e f ws ws' ds ds' a s k lw ld z v ed ee =
+recipes_judged h representation d d' ex e f ws ws' ds ds' a s k lw ld z v ed ee =
     let q : a.refusal ≡ recipe_refusal e 256 256 = rw (lw, ld) at (refusal_is e ws ws' ds ds' a k) in
     let x : ex ≡ extent (meaning e) = ee ∙ extent_read e ws ws' ds ds' a k z in
     record {
       refused = λ n. absurd (n (sym q ∙ z));
-      granted = λ _. rw (ed, x, widths_same e ws ws' ds ds' a k z, displacements_same e ws ws' ds ds' a k z) at v;
+      filetype = λ _. rw (ed, x, widths_same e ws ws' ds ds' a k z, displacements_same e ws ws' ds ds' a k z) at v;
     }
 
 -- the recipe of a basic width, with the displacement as the machine reads it

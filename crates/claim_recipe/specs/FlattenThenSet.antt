@@ -23,12 +23,12 @@ width_recipe w = record { steps = 1 ∷ 1 ∷ w ∷ 1 ∷ 0 ∷ 0 ∷ []; items 
 unfoldable pub recipe_refused : ℕ → Handle → SetViewAnswer
 recipe_refused n h = record { refusal = n; count = 0; handle = h; named = Nothing }
 
--- a filetype's recipe, flattened into lists of 256; if it is granted, the set is asked with exactly the type that it means
+-- a filetype's recipe, flattened into lists of 256; if it is granted, the set judges exactly the type that it means
 pub record FiletypeSet (h : Handle) (representation : List ℕ) (d : ℤ) (e : PaperType) (f : Recipe) (a : SetViewAnswer) : Type 0 where
   pub refused : recipe_refusal f 256 256 ≢ 0 → a ≡ recipe_refused (recipe_refusal f 256 256) h
-  pub granted : recipe_refusal f 256 256 ≡ 0 → ViewSet h representation (view_meant d e f) a
+  pub judged : recipe_refusal f 256 256 ≡ 0 → ViewSet h representation (view_meant d e f) a
 
 -- the etype's recipe is flattened before it, likewise
 pub record RecipesSet (h : Handle) (representation : List ℕ) (d : ℤ) (e f : Recipe) (a : SetViewAnswer) : Type 0 where
   pub refused : recipe_refusal e 256 256 ≢ 0 → a ≡ recipe_refused (recipe_refusal e 256 256) h
-  pub granted : recipe_refusal e 256 256 ≡ 0 → FiletypeSet h representation d (type_meant e) f a
+  pub filetype : recipe_refusal e 256 256 ≡ 0 → FiletypeSet h representation d (type_meant e) f a

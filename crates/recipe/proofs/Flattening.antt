@@ -1,22 +1,22 @@
 -- Flattening a recipe: one that is granted has room, and its table, placed without a shift, is its typemap.
 use mathlib.Core.List.{List, [], ◌∷◌, map}
 use lib.IntN.{+ℤ_idr}
-use Rattle.laws.proofs.Prelude.{ℕ, suc, ◌-◌, ◌/◌, ◌≤◌, ◌<◌, ◌≡◌, ◌≢◌, refl, sym, ap, ◌∙◌, true, false, true≢false, ◌⊎◌, ⊎_elim, arith, length, eqb, ltb, eqb-true, eq-eqb, lt-ltb, also_inv, check_inv, cond_yes, granted_yes, granted_no, least_false_breaks, least_false_keeps, not_both, lt_or_le, eq_or_ne, pos, ℤ, ◌+ℤ◌, negsuc, within_inv, w64, SFits, to_z, of_z, to_z_pos}
+use Rattle.laws.proofs.Prelude.{ℕ, suc, ◌+◌, ◌-◌, ◌*◌, ◌/◌, ◌≤◌, ◌<◌, ◌≡◌, ◌≢◌, refl, sym, ap, ◌∙◌, Bool, true, false, true≢false, ◌⊎◌, inl, inr, ⊎_elim, arith, length, nth, eqb, leb, ltb, leb-true, eqb-true, eq-eqb, ne_eqb, lt-ltb, also_inv, check, check_inv, cond, cond_yes, granted, granted_yes, granted_no, least_false, least_false_breaks, least_false_keeps, least_false_le, not_both, lt_or_le, eq_or_ne, pos, ℤ, ◌+ℤ◌, sub_ℕ, negsuc, within_inv, w64, SFits, to_z, of_z, to_z_pos}
 use Rattle.view.specs.Limits.{extent_allowed}
 use Rattle.recipe_types.specs.declared.Shape.{Shape}
-use Rattle.recipe_types.specs.Typemaps.{Entry, lower_bound, extent, widths, displacements}
-use Rattle.recipe_types.specs.Recipes.{Recipe, recipe_of, recipe_step, step_type, step_names, limits_allowed, is_zero, own_refusal, type_refusal, step_refusal, step_count, steps_allowed, first_bad, recipe_refusal, meaning, over}
-use Rattle.recipe_types.specs.Parts.{Known, shape_at}
+use Rattle.recipe_types.specs.Typemaps.{Entry, Typemap, extent, widths, displacements}
+use Rattle.recipe_types.specs.Recipes.{Recipe, recipe_of, step_type, limits_kept, last_refusal, room, step_refusal, step_count, steps_allowed, first_bad, recipe_refusal, meaning, over}
+use Rattle.recipe_types.specs.Parts.{max_place, Known, shape_at}
 use Rattle.recipe_types.proofs.Building.{meaning_is}
-use Rattle.recipe_types.proofs.Refusing.{own_chain, type_passed, last_passed}
 use Rattle.recipe_types.proofs.Shapes.{known_extent}
 use Rattle.recipe_types.proofs.Integers.{sub_pos}
-use Rattle.recipe_place.specs.Parts.{plan_of, PlaceAsked, widths_of, displacements_of, Placed}
-use Rattle.recipe_plan.specs.Parts.{inner_refusal}
-use Rattle.recipe.specs.declared.Verdict.{Verdict}
+use Rattle.recipe_place.specs.Parts.{plan_of, Plan, PlaceAsked, widths_of, displacements_of, Placed}
+use Rattle.recipe_plan.specs.Parts.{Table, inner_refusal}
+use Rattle.recipe.specs.declared.Flattened.{Flattened}
+use Rattle.recipe.specs.declared.Judgement.{Judgement}
 use Rattle.recipe.specs.Flattening.{flatten_answer, FlattenDone}
-use Rattle.recipe.specs.Parts.{AllChecked}
-use Rattle.recipe.proofs.Checking.{step_refused, step_last, count_are}
+use Rattle.recipe.specs.Parts.{AllJudged}
+use Rattle.recipe.proofs.Judging.{step_refused, step_last, count_are}
 use Rattle.recipe.proofs.Planning.{table_plan, table_entries}
 
 -- ---- a recipe that is granted
@@ -54,22 +54,29 @@ granted_inner r ws ds z =
     ⊎_elim (λ q. q) (λ q. absurd (q (sym (step_refused r ws ds (step_count r - 1) q) ∙ e))) (eq_or_ne (inner_refusal r (step_count r - 1)) 0)
 
 -- the room for the entries
+last_room : (t : Typemap) (ws ds : ℕ) → last_refusal t ws ds ≡ 0 → (length t.entries ≤ ws) × (length t.entries ≤ ds)
+unfolding last_refusal room
+last_room t ws ds z =
+    let a = (check_inv _ 32 _ (omega arith) z).1 in
+    let b = also_inv (leb (length t.entries) ws) (leb (length t.entries) ds) (check_inv _ 33 0 (omega arith) a).0 in
+    (leb-true (length t.entries) ws b.0, leb-true (length t.entries) ds b.1)
+
 granted_room : (r : Recipe) (ws ds : ℕ) → recipe_refusal r ws ds ≡ 0 → (length (step_type r (step_count r - 1)).entries ≤ ws) × (length (step_type r (step_count r - 1)).entries ≤ ds)
 granted_room r ws ds z =
     let c = count_are r ws ds (step_count r) refl (granted_count r ws ds z) in
     let some = c.0 in
     let e = granted_step r ws ds z (step_count r - 1) (omega arith) in
     let inner = granted_inner r ws ds z in
-    last_passed (is_zero (lower_bound (step_type r (step_count r - 1)))) (length (step_type r (step_count r - 1)).entries) ws ds (sym (step_last r ws ds (step_count r - 1) inner (omega arith)) ∙ e)
+    last_room (step_type r (step_count r - 1)) ws ds (sym (step_last r ws ds (step_count r - 1) inner (omega arith)) ∙ e)
 
 inner_limits : (r : Recipe) (i : ℕ) → inner_refusal r i ≡ 0 → extent_allowed (extent (step_type r i)) ≡ true
-unfolding inner_refusal limits_allowed
+unfolding inner_refusal limits_kept
 inner_limits r i z =
-    let own = own_chain (step_names r i) (recipe_step r i) in
-    ⊎_elim
-    (λ q. (also_inv _ _ (type_passed (step_type r i) (sym (own.passes (type_refusal (step_type r i) 0) q) ∙ z)).1).1)
-    (λ q. absurd (q (sym (own.stops (type_refusal (step_type r i) 0) q) ∙ z)))
-    (eq_or_ne (own_refusal (step_names r i) (recipe_step r i) 0) 0)
+    let a = (check_inv _ 27 _ (omega arith) z).1 in
+    let b = (check_inv _ 28 _ (omega arith) a).1 in
+    let c = (check_inv _ 29 _ (omega arith) b).1 in
+    let d = (check_inv _ 30 _ (omega arith) c).1 in
+    (also_inv _ _ (check_inv _ 31 0 (omega arith) d).0).1
 
 allowed_fits : (x : ℤ) → extent_allowed x ≡ true → SFits w64 x
 unfolding extent_allowed
@@ -79,11 +86,12 @@ allowed_fits (negsuc n) e = absurd (true≢false (sym e))
 -- the extent of what a granted recipe means is a signed number of 64 bits
 pub granted_fits : (r : Recipe) (ws ds : ℕ) → recipe_refusal r ws ds ≡ 0 → SFits w64 (extent (meaning r))
 granted_fits r ws ds z =
-    rw (meaning_is r) (allowed_fits (extent (step_type r (step_count r - 1))) (inner_limits r (step_count r - 1) (granted_inner r ws ds z)))
+    let c = count_are r ws ds (step_count r) refl (granted_count r ws ds z) in
+    rw (meaning_is r c.0) (allowed_fits (extent (step_type r (step_count r - 1))) (inner_limits r (step_count r - 1) (granted_inner r ws ds z)))
 
 -- ---- what placing the last step asks
 
-module _ (steps items : List ℕ) (ws ds : ℕ) (rows places : List ℕ) (j : Verdict) (a : AllChecked (recipe_of steps items) ws ds rows places j) (z : j.refusal ≡ 0) where
+module _ (steps items : List ℕ) (ws ds : ℕ) (rows places : List ℕ) (j : Judgement) (a : AllJudged (recipe_of steps items) ws ds rows places j) (z : j.refusal ≡ 0) where
   whole : recipe_refusal (recipe_of steps items) ws ds ≡ 0
   whole = sym a.answer ∙ z
 
@@ -129,7 +137,7 @@ module _ (steps items : List ℕ) (ws ds : ℕ) (rows places : List ℕ) (j : Ve
   flatten_extent s e = let q = known.extent_few in rw e (omega arith)
 
   last_means : meaning (recipe_of steps items) ≡ step_type (recipe_of steps items) (step_count (recipe_of steps items) - 1)
-  last_means = meaning_is (recipe_of steps items)
+  last_means = meaning_is (recipe_of steps items) steps_are.0
 
   entries_are : plan_of rows places (step_count (recipe_of steps items) - 1) ≡ (meaning (recipe_of steps items)).entries
   entries_are = table_entries steps items rows places (step_count (recipe_of steps items)) (step_count (recipe_of steps items) - 1) (a.table z) steps_are.1 (let q = steps_are.0 in omega arith) ∙ ap (λ t. t.entries) (sym last_means)
@@ -141,7 +149,7 @@ unfolding displacements_of
 unshifted [] = refl
 unshifted (e ∷ l) = rw (sub_pos 1048576 1048576 0 refl, +ℤ_idr e.displacement) (ap (λ r. e.displacement ∷ r) (unshifted l))
 
-pub flatten_done : (steps items : List ℕ) (ws ws' : List ℕ) (ds ds' : List ℤ) (rows places : List ℕ) (j : Verdict) (s : Shape) (x : ℤ) → AllChecked (recipe_of steps items) (length ws) (length ds) rows places j → j.refusal ≡ 0 → Placed (plan_of rows places (length steps / 6 - 1)) 1048576 ws ws' ds ds' → s ≡ shape_at rows (length steps / 6 - 1) → x ≡ pos s.extent → FlattenDone (recipe_of steps items) ws ws' ds ds' (record { refusal = 0; entries = s.entries; extent = to_z w64 (of_z w64 x) })
+pub flatten_done : (steps items : List ℕ) (ws ws' : List ℕ) (ds ds' : List ℤ) (rows places : List ℕ) (j : Judgement) (s : Shape) (x : ℤ) → AllJudged (recipe_of steps items) (length ws) (length ds) rows places j → j.refusal ≡ 0 → Placed (plan_of rows places (length steps / 6 - 1)) 1048576 ws ws' ds ds' → s ≡ shape_at rows (length steps / 6 - 1) → x ≡ pos s.extent → FlattenDone (recipe_of steps items) ws ws' ds ds' (record { refusal = 0; entries = s.entries; extent = to_z w64 (of_z w64 x) })
 unfolding step_count flatten_answer widths displacements widths_of
 flatten_done steps items ws ws' ds ds' rows places j s x a z p e f =
     let r = recipe_of steps items in
@@ -160,7 +168,7 @@ flatten_done steps items ws ws' ds ds' rows places j s x a z p e f =
     }
 
 -- a refusal: its number, and nothing else
-pub flatten_refused : (r : Recipe) (ws : List ℕ) (ds : List ℤ) (rows places : List ℕ) (j : Verdict) → AllChecked r (length ws) (length ds) rows places j → j.refusal ≢ 0 → FlattenDone r ws ws ds ds (record { refusal = j.refusal; entries = 0; extent = pos 0 })
+pub flatten_refused : (r : Recipe) (ws : List ℕ) (ds : List ℤ) (rows places : List ℕ) (j : Judgement) → AllJudged r (length ws) (length ds) rows places j → j.refusal ≢ 0 → FlattenDone r ws ws ds ds (record { refusal = j.refusal; entries = 0; extent = pos 0 })
 unfolding flatten_answer
 flatten_refused r ws ds rows places j a z =
     let n = j.refusal in

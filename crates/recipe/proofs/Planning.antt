@@ -1,19 +1,19 @@
 -- The table of a recipe's steps can be placed, and stands for the entries of the types that the steps mean.
 use mathlib.Core.List.{List, map}
 use lib.IntN.{◌*ℤ◌}
-use Rattle.laws.proofs.Prelude.{ℕ, zero, suc, ◌+◌, ◌*◌, ◌≤◌, ◌<◌, ◌≡◌, ◌≢◌, refl, sym, ap, ◌∙◌, ◌⊎◌, ⊎_elim, arith, nth, drop, get_or-drop, eq-or-lt_of_le, eq_or_ne, sub_ℕ}
-use Rattle.view.proofs.Accepted.{width_small}
+use Rattle.laws.proofs.Prelude.{ℕ, zero, suc, ◌+◌, ◌-◌, ◌*◌, ◌≤◌, ◌<◌, ◌≡◌, ◌≢◌, refl, sym, ap, ◌∙◌, true, ◌⊎◌, inl, inr, ⊎_elim, arith, length, nth, drop, get_or-drop, eqb, eqb-true, eq-eqb, ne_eqb, either_inv, eq-or-lt_of_le, eq_or_ne, pos, sub_ℕ}
+use Rattle.view.specs.Limits.{width_allowed}
 use Rattle.recipe_types.specs.declared.Shape.{Shape}
-use Rattle.recipe_types.specs.Typemaps.{Typemap, extent, basic, shifted}
+use Rattle.recipe_types.specs.Typemaps.{Entry, Typemap, extent, basic, joined, shifted}
 use Rattle.recipe_types.specs.Recipes.{Recipe, recipe_of, step_number, recipe_step, step_type, construct}
-use Rattle.recipe_types.specs.Parts.{bias, copies_of, place_of, Places, Known, shape_at, shape_below, shape_named, basic_shape}
+use Rattle.recipe_types.specs.Parts.{bias, max_place, copies_of, place_of, Places, Known, shape_at, shape_below, shape_named, basic_shape}
 use Rattle.recipe_types.proofs.Building.{construct_entries, entry_count, joined_same, type_is_basic, type_is_step}
 use Rattle.recipe_types.proofs.Shapes.{basic_known, known_extent, copy_within}
-use Rattle.recipe_steps.specs.Parts.{numbers_at}
-use Rattle.recipe_place.specs.Parts.{plan_copies, basic_copies, row_of, plan_of, RowValid, Plan}
+use Rattle.recipe_steps.specs.Parts.{numbers_at, names_by}
+use Rattle.recipe_place.specs.Parts.{plan_copies, basic_copies, row_of, plan_of, RowKept, Plan}
 use Rattle.recipe_place.proofs.Plans.{plan_basic, plan_step}
-use Rattle.recipe_plan.specs.Parts.{StepKnown, Table}
-use Rattle.recipe_plan.proofs.Checking.{Standing, standing, sound_are, names_are}
+use Rattle.recipe_plan.specs.Parts.{StepKnown, Table, Facing}
+use Rattle.recipe_plan.proofs.Judging.{Standing, standing, sound_are, names_are}
 
 -- ---- a step of the table
 
@@ -37,6 +37,12 @@ step_standing steps items rows places n i t h l =
       below_is = row_names steps items rows places i k;
     })
 
+-- a width is at most 8
+width_small : (w : ℕ) → width_allowed w ≡ true → w ≤ 8
+unfolding width_allowed
+width_small w e =
+    ⊎_elim (λ a. let q = eqb-true w 1 a in omega arith) (λ r. ⊎_elim (λ a. let q = eqb-true w 2 a in omega arith) (λ s. ⊎_elim (λ a. let q = eqb-true w 4 a in omega arith) (λ a. let q = eqb-true w 8 a in omega arith) (either_inv _ _ s)) (either_inv _ _ r)) (either_inv _ _ e)
+
 -- its places as a list of their own
 step_places : (r : Recipe) (rows places : List ℕ) (i : ℕ) → StepKnown r rows places i → Places (place_of (recipe_step r i)) (copies_of (recipe_step r i)) (drop (256 * i) places)
 step_places r rows places i k = record {
@@ -55,10 +61,10 @@ row_earlier steps items rows places i k n =
 row_width : (steps items rows places : List ℕ) (i : ℕ) → StepKnown (recipe_of steps items) rows places i → nth rows (8 * i + 1) ≡ 1 → nth rows (8 * i + 2) ≤ 8
 unfolding numbers_at step_number
 row_width steps items rows places i k e =
-    ⊎_elim (λ b. rw k.name (width_small (numbers_at steps i).name b.1).1) (λ b. absurd (let q = b.0 in let w = k.source in omega arith)) (names_are (numbers_at steps i) i (sound_are items (numbers_at steps i) i k.sound).0).1
+    ⊎_elim (λ b. rw k.name (width_small (numbers_at steps i).name b.1)) (λ b. absurd (let q = b.0 in let w = k.source in omega arith)) (names_are (numbers_at steps i) i (sound_are items (numbers_at steps i) i k.sound).0).1
 
-row_valid : (steps items rows places : List ℕ) (n i : ℕ) → Table (recipe_of steps items) rows places n → n ≤ 32 → i < n → RowValid rows places i
-row_valid steps items rows places n i t h l =
+row_kept : (steps items rows places : List ℕ) (n i : ℕ) → Table (recipe_of steps items) rows places n → n ≤ 32 → i < n → RowKept rows places i
+row_kept steps items rows places n i t h l =
     let r = recipe_of steps items in
     let k = t.each i l in
     let g = step_standing steps items rows places n i t h l in
@@ -86,7 +92,7 @@ table_plan steps items rows places n t h = record {
   rows_long = t.rows_long;
   places_long = t.places_long;
   steps = h;
-  row = λ i l. row_valid steps items rows places n i t h l;
+  row = λ i l. row_kept steps items rows places n i t h l;
 }
 
 -- ---- it stands for the entries of the types

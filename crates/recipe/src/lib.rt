@@ -3,16 +3,10 @@ ghost use Rattle.std.specs.Prelude.{◌≡◌, ◌<◌, ◌/◌, ◌%◌, eqb, p
 ghost use Rattle.laws.specs.Checks.{also, within};
 ghost use Rattle.recipe_types.specs.Recipes.{recipe_of};
 ghost use Rattle.recipe_types.specs.Parts.{shape_at};
-ghost use Rattle.recipe.specs.Flattening.{FlattenDone, faulty_step_numbers, step_at_fault};
-ghost use Rattle.recipe.specs.Parts.{last_by, verdict_at, AllChecked};
+ghost use Rattle.recipe.specs.Flattening.{FlattenDone, faulty_step};
+ghost use Rattle.recipe.specs.Parts.{last_by, judged_at, AllJudged};
 
 pub use recipe_steps::signed;
-use recipe_types::MAX_STEPS;
-pub use recipe_types::{
-    BASIC, CONTIGUOUS, HALF, INDEXED, ITEM_SIZE, REFUSED_DIMENSIONS, REFUSED_ENTRIES,
-    REFUSED_LIMITS, REFUSED_LOWER_BOUND, REFUSED_NAME, REFUSED_ROOM, REFUSED_STEPS, REFUSED_ZERO,
-    RESIZED, STEP, STEP_SIZE, SUBARRAY, VECTOR,
-};
 
 // Entry count and extent of the type that a recipe means, 0 if it is refused.
 #[derive(Drop)]
@@ -25,38 +19,40 @@ pub struct Flattened {
 // The step that a refusal is of, counted from 0.
 #[derive(Drop)]
 pub enum FaultyStep {
-    At(u64),
+    Step(u64),
     Nothing,
 }
 
-// The numbers of a faulty step: whether one is named, and which; 0 where none is.
-#[derive(Drop)]
-pub struct FaultyStepNumbers {
-    pub named: bool,
-    pub step: u64,
-}
+// The kinds of steps.
+pub const CONTIGUOUS: u64 = recipe_steps::CONTIGUOUS;
 
-impl FaultyStep {
-    // The numbers of either answer.
-    pub fn numbers(self) -> FaultyStepNumbers
-        ensures { result ≡ faulty_step_numbers self }
-    {
-        match self {
-            FaultyStep::At(i) => FaultyStepNumbers {
-                named: true,
-                step: i,
-            },
-            FaultyStep::Nothing => FaultyStepNumbers {
-                named: false,
-                step: 0,
-            },
-        }
-    }
-}
+pub const VECTOR: u64 = recipe_steps::VECTOR;
+
+pub const INDEXED: u64 = recipe_steps::INDEXED;
+
+pub const SUBARRAY: u64 = recipe_steps::SUBARRAY;
+
+pub const RESIZED: u64 = recipe_steps::RESIZED;
+
+// What a step names: a basic width, or an earlier step.
+pub const BASIC: u64 = recipe_types::BASIC;
+
+pub const STEP: u64 = recipe_types::STEP;
+
+pub const REFUSED_STEPS: u64 = 26;
+
+pub const REFUSED_LOWER_BOUND: u64 = 32;
+
+pub const REFUSED_ROOM: u64 = 33;
+
+const MAX_STEPS: usize = 32;
+
+// How many numbers a step has.
+const STEP_SIZE: usize = 6;
 
 // A recipe's refusal, 0 if it is granted, and the step at fault.
 #[derive(Drop)]
-struct Verdict {
+struct Judgement {
     refusal: u64,
     faulty: FaultyStep,
 }
@@ -79,36 +75,36 @@ fn last_refusal(rows: &[u64], i: usize, widths: usize, displacements: usize) -> 
     0
 }
 
-// A verdict of step `i`.
-fn verdict_at(refusal: u64, i: usize) -> Verdict
-    ensures { result ≡ verdict_at refusal i }
+// A judgement of step `i`.
+fn judged_at(refusal: u64, i: usize) -> Judgement
+    ensures { result ≡ judged_at refusal i }
 {
     if refusal == 0 {
-        return Verdict {
+        return Judgement {
             refusal: 0,
             faulty: FaultyStep::Nothing,
         };
     }
-    Verdict {
+    Judgement {
         refusal: refusal,
-        faulty: FaultyStep::At(i as u64),
+        faulty: FaultyStep::Step(i as u64),
     }
 }
 
-// Checks the steps in order, and fills the table of steps, for lists of these lengths.
-fn check_steps(
+// Judges the steps in order, and fills the table of steps, for lists of these lengths.
+fn judge(
     steps: &[u64],
     items: &[u64],
     widths: usize,
     displacements: usize,
     rows: &mut [u64],
     places: &mut [u64],
-) -> Verdict
+) -> Judgement
     requires { (length rows.old ≡ 256) × (length places.old ≡ 8192) }
-    ensures { AllChecked (recipe_of steps.now items.now) widths displacements rows.new places.new result }
+    ensures { AllJudged (recipe_of steps.now items.now) widths displacements rows.new places.new result }
 {
     if !steps_allowed(steps.len()) {
-        return Verdict {
+        return Judgement {
             refusal: REFUSED_STEPS,
             faulty: FaultyStep::Nothing,
         };
@@ -116,14 +112,14 @@ fn check_steps(
     let n = steps.len() / STEP_SIZE;
     let mut i = 0;
     while i < n {
-        let refusal = recipe_plan::check_step(steps, items, i, rows, places);
+        let refusal = recipe_plan::judge_step(steps, items, i, rows, places);
         if refusal != 0 {
-            return verdict_at(refusal, i);
+            return judged_at(refusal, i);
         }
         i += 1;
     }
     let last = n - 1;
-    verdict_at(last_refusal(rows, last, widths, displacements), last)
+    judged_at(last_refusal(rows, last, widths, displacements), last)
 }
 
 // Whether so many numbers are 1 to 32 whole steps.
@@ -153,10 +149,10 @@ pub fn flatten(
     let mut places = [0u64; 8192];
     let wide = widths.len();
     let long = displacements.len();
-    let verdict = check_steps(steps, items, wide, long, &mut rows, &mut places);
-    if verdict.refusal != 0 {
+    let judged = judge(steps, items, wide, long, &mut rows, &mut places);
+    if judged.refusal != 0 {
         return Flattened {
-            refusal: verdict.refusal,
+            refusal: judged.refusal,
             entries: 0,
             extent: 0,
         };
@@ -188,10 +184,10 @@ fn extent_of(extent: u64) -> i64
 
 // The step at fault of a recipe that `flatten` refuses with lists of these lengths; none if it is granted or has a wrong number of steps.
 pub fn faulty_step(steps: &[u64], items: &[u64], widths: usize, displacements: usize) -> FaultyStep
-    ensures { faulty_step_numbers result ≡ step_at_fault (recipe_of steps.now items.now) widths displacements }
+    ensures { result ≡ faulty_step (recipe_of steps.now items.now) widths displacements }
 {
     let mut rows = [0u64; 256];
     let mut places = [0u64; 8192];
-    let verdict = check_steps(steps, items, widths, displacements, &mut rows, &mut places);
-    verdict.faulty
+    let judged = judge(steps, items, widths, displacements, &mut rows, &mut places);
+    judged.faulty
 }

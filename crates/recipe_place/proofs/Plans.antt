@@ -1,11 +1,12 @@
 -- The entries that a table stands for: those of a step are copies of those of what it names, as many as its row says.
-use mathlib.Core.List.{List}
-use lib.ListN.{length-map}
-use Rattle.laws.proofs.Prelude.{ℕ, zero, suc, ◌+◌, ◌*◌, ◌≤◌, ◌<◌, ◌≡◌, ◌≢◌, ◌⊎◌, ⊎_elim, refl, sym, ap, ◌∙◌, arith, length, nth, eq-eqb, ne_eqb, eq-or-lt_of_le, eq_or_ne}
-use Rattle.recipe_types.specs.Typemaps.{Entry, basic}
+use mathlib.Core.List.{List, [], ◌∷◌, ◌++◌, map, map-append}
+use lib.ListN.{length-append, length-map}
+use Rattle.laws.proofs.Prelude.{ℕ, zero, suc, ◌+◌, ◌-◌, ◌*◌, ◌≤◌, ◌<◌, ◌≡◌, ◌≢◌, ◌⊎◌, inl, inr, ⊎_elim, refl, sym, ap, ◌∙◌, arith, length, nth, eq-eqb, ne_eqb, eqb, eq-or-lt_of_le, eq_or_ne}
+use Rattle.recipe_types.specs.Typemaps.{Entry, basic, joined, shifted}
 use Rattle.recipe_types.specs.Parts.{shape_at, shape_below, shape_named, basic_shape}
 use Rattle.recipe_types.proofs.Building.{length_joined}
-use Rattle.recipe_place.specs.Parts.{row_of, plan_named, plan_copies, basic_copies, plan_before, plan_of, RowValid, Plan}
+use Rattle.recipe_place.specs.declared.Row.{Row}
+use Rattle.recipe_place.specs.Parts.{row_of, plan_named, plan_copies, basic_copies, plan_before, plan_of, RowKept, Plan}
 
 -- among the entries of the first n steps, those of an earlier step are its own
 pub plan_before_law : (rows places : List ℕ) (n k : ℕ) → k < n → plan_before rows places n k ≡ plan_of rows places k
@@ -34,7 +35,7 @@ unfolding plan_copies
 copies_length places i extent l n = length_joined _ (length l) n (λ k h. length-map l _)
 
 -- a step has as many entries as its row says, if the steps before it have
-length_here : (rows places : List ℕ) (m : ℕ) → RowValid rows places m → ((k : ℕ) → k < m → length (plan_of rows places k) ≡ (shape_at rows k).entries) → length (plan_of rows places m) ≡ (shape_at rows m).entries
+length_here : (rows places : List ℕ) (m : ℕ) → RowKept rows places m → ((k : ℕ) → k < m → length (plan_of rows places k) ≡ (shape_at rows k).entries) → length (plan_of rows places m) ≡ (shape_at rows m).entries
 unfolding shape_below shape_named basic_shape basic_copies row_of basic
 length_here rows places m kept before =
     ⊎_elim

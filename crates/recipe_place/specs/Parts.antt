@@ -1,5 +1,5 @@
 -- Need not be believed. The entries that a table of steps stands for, and what a table must keep so that they can be placed.
-use Rattle.std.specs.Prelude.{ℕ, zero, suc, ◌+◌, ◌-◌, ◌*◌, ◌≤◌, ◌<◌, cond, List, [], map, ◌≡◌, eqb, ℤ, pos, ◌+ℤ◌, ◌*ℤ◌, length}
+use Rattle.std.specs.Prelude.{ℕ, zero, suc, ◌+◌, ◌-◌, ◌*◌, ◌≤◌, ◌<◌, Bool, true, false, cond, List, [], ◌∷◌, map, ◌≡◌, eqb, ℤ, pos, ◌+ℤ◌, ◌*ℤ◌, length}
 use Rattle.std.proofs.Math.IntN.{sub_ℕ}
 use Rattle.laws.specs.Lists.{nth}
 use Rattle.recipe_types.specs.Typemaps.{Entry, basic, joined, shifted}
@@ -31,7 +31,7 @@ unfoldable pub plan_of : List ℕ → List ℕ → ℕ → List Entry
 plan_of rows places i = plan_before rows places (suc i) i
 
 -- what the row of step i keeps: it names an earlier step or a small width, has few copies, all entries of which lie within its own least and end, and these within the limits
-pub record RowValid (rows places : List ℕ) (i : ℕ) : Type 0 where
+pub record RowKept (rows places : List ℕ) (i : ℕ) : Type 0 where
   pub earlier : (nth rows (8 * i + 1) ≡ 1 → ⊥) → nth rows (8 * i + 2) < i
   pub width : nth rows (8 * i + 1) ≡ 1 → nth rows (8 * i + 2) ≤ 8
   pub copies : nth rows (8 * i) ≤ 256
@@ -49,7 +49,7 @@ pub record Plan (rows places : List ℕ) (n : ℕ) : Type 0 where
   pub rows_long : length rows ≡ 256
   pub places_long : length places ≡ 8192
   pub steps : n ≤ 32
-  pub row : (i : ℕ) → i < n → RowValid rows places i
+  pub row : (i : ℕ) → i < n → RowKept rows places i
 
 -- the entries of step i, shifted, keep the limits (the shift has 2^20 added, for it may be negative), and two lists have room for them
 pub record PlaceAsked (rows places : List ℕ) (i shift widths displacements : ℕ) : Type 0 where

@@ -2,10 +2,8 @@
 ghost use Rattle.std.specs.Prelude.{◌≡◌, ◌+◌, ◌-◌, ◌*◌, ◌≤◌, ◌<◌, pos, length};
 ghost use Rattle.recipe_place.specs.Parts.{row_of, CopyFits, copy_shift, BasicFits, basic_copies, PlaceAsked, Placed, plan_of};
 
-use view::View;
-
-// What is added to a shift, which may be negative: the entries that are shifted end within their limit, so none is shifted further down.
-pub const SHIFT_BIAS: u64 = View::MAX_ENTRY_END;
+// What is added to a shift, which may be negative: 2^20.
+pub const SHIFT_BIAS: u64 = 1048576;
 
 // The displacement of an entry at 0 that is shifted.
 fn displacement_at(shift: u64) -> i64

@@ -1,5 +1,5 @@
 pub mod Spanning
 pub mod Making
 pub mod Middle
-pub mod Checking
+pub mod Judging
 pub mod Putting

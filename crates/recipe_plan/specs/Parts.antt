@@ -1,17 +1,22 @@
--- Need not be believed. The table of the steps that were checked, and what checking a step asks and answers.
+-- Need not be believed. The table of the steps that were judged, and what judging a step asks and answers.
 use Rattle.std.specs.Prelude.{ℕ, suc, ◌+◌, ◌*◌, ◌≤◌, ◌<◌, Bool, true, false, List, [], ◌∷◌, ◌≢◌, ◌≡◌, length}
 use Rattle.std.proofs.Math.IntN.{sub_ℕ}
+use Rattle.laws.specs.Checks.{check}
 use Rattle.laws.specs.Lists.{nth}
 use Rattle.recipe_types.specs.declared.Shape.{Shape}
-use Rattle.recipe_types.specs.Recipes.{Recipe, recipe_of, step_number, recipe_step, step_type, names_allowed, step_names, own_refusal, type_refusal}
+use Rattle.recipe_types.specs.Typemaps.{Typemap}
+use Rattle.recipe_types.specs.Recipes.{Recipe, recipe_of, Step, step_number, recipe_step, step_type, names, none_zero, dimensions_allowed, entry_count_allowed, limits_kept}
 use Rattle.recipe_types.specs.Parts.{copies_of, place_of, step_near, max_place, bias, Places, Known, Spans, shape_at, shape_named, limits_by, shape_made}
 use Rattle.recipe_steps.specs.declared.StepNumbers.{StepNumbers}
-use Rattle.recipe_steps.specs.Parts.{numbers_at, step_by, Sound, Placeable}
+use Rattle.recipe_steps.specs.Parts.{numbers_at, step_by, names_by, Sound, Placeable}
 use Rattle.recipe_plan.specs.declared.Span.{Span}
 
--- checks 27 to 29 of step i, by its numbers
+-- checks 27 to 29, by its numbers
 unfoldable pub sound_refusal : List ℕ → StepNumbers → ℕ → ℕ
-sound_refusal items s i = own_refusal (names_allowed s.kind s.source s.name i) (step_by items s) 0
+sound_refusal items s i =
+    check (names_by s i) 27
+    (check (none_zero (step_by items s)) 28
+    (check (dimensions_allowed (step_by items s)) 29 0))
 
 -- ---- the table
 
@@ -98,11 +103,16 @@ pub record StepPut (items : List ℕ) (s : StepNumbers) (i n : ℕ) (below : Sha
   pub answer : kept ≡ limits_by (step_by items s) below span.low span.high
   pub row : kept ≡ true → RowPut items s i n below part span rows places rows' places'
 
--- ---- checking a step
+-- ---- judging a step
 
 -- checks 27 to 31
 unfoldable pub inner_refusal : Recipe → ℕ → ℕ
-inner_refusal r i = own_refusal (step_names r i) (recipe_step r i) (type_refusal (step_type r i) 0)
+inner_refusal r i =
+    check (names r i) 27
+    (check (none_zero (recipe_step r i)) 28
+    (check (dimensions_allowed (recipe_step r i)) 29
+    (check (entry_count_allowed (step_type r i)) 30
+    (check (limits_kept (step_type r i)) 31 0))))
 
 -- a number of copies, or 0 where they have too many entries
 pub record FewCopies (copies entries r : ℕ) : Type 0 where
@@ -110,11 +120,11 @@ pub record FewCopies (copies entries r : ℕ) : Type 0 where
   pub same : r ≢ 0 → (r ≡ copies) × (r * entries ≤ 256)
 
 -- the answer, and the table with the step if it is granted
-pub record StepChecked (r : Recipe) (i : ℕ) (rows places : List ℕ) (refusal : ℕ) : Type 0 where
+pub record Judged (r : Recipe) (i : ℕ) (rows places : List ℕ) (refusal : ℕ) : Type 0 where
   pub answer : refusal ≡ inner_refusal r i
   pub table : refusal ≡ 0 → Table r rows places (suc i)
 
--- what checking step i finds before it: the table of the steps before, and the numbers of the step and of the type that it names
+-- what judging step i finds before it: the table of the steps before, and the numbers of the step and of the type that it names
 pub record Facing (steps items rows places : List ℕ) (i : ℕ) (s : StepNumbers) (below : Shape) : Type 0 where
   pub table : Table (recipe_of steps items) rows places i
   pub step : i < 32

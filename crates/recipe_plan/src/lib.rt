@@ -1,20 +1,17 @@
 // The table of a recipe's steps: each step that is granted gets a row with the numbers of its type, and the places of its copies. For our own crates.
-ghost use Rattle.std.specs.Prelude.{◌≡◌, cond, ◌+◌, ◌*◌, ◌≤◌, ◌<◌, length};
+ghost use Rattle.std.specs.Prelude.{◌≡◌, cond, suc, ◌+◌, ◌*◌, ◌≤◌, ◌<◌, min, max, length};
 ghost use Rattle.std.specs.Int.{w64};
 ghost use Rattle.std.proofs.Common.{to_z};
 ghost use Rattle.view.specs.Types.{whole};
 ghost use Rattle.laws.specs.Lists.{nth};
 ghost use Rattle.laws.specs.Parts.{front};
 ghost use Rattle.recipe_types.specs.Recipes.{recipe_of};
-ghost use Rattle.recipe_types.specs.Parts.{copies_of, entries_fit, extent_got};
+ghost use Rattle.recipe_types.specs.Parts.{copies_of, entries_fit, extent_got, shape_named};
 ghost use Rattle.recipe_steps.specs.Parts.{numbers_at, step_by, Sound, Placeable, PlacesPut};
-ghost use Rattle.recipe_plan.specs.Parts.{SpanOf, MakingReady, Made, row_numbers, sound_refusal, StepChecked, Table, PutAsked, StepPut, FewCopies};
+ghost use Rattle.recipe_plan.specs.Parts.{SpanOf, MakingReady, Made, row_numbers, sound_refusal, Judged, Table, PutAsked, StepPut, FewCopies};
 
 use recipe_steps::StepNumbers;
-use recipe_types::{
-    HALF, REFUSED_DIMENSIONS, REFUSED_ENTRIES, REFUSED_LIMITS, REFUSED_NAME, REFUSED_ZERO, Shape,
-};
-use view::View;
+use recipe_types::Shape;
 
 // The least and the greatest place of the copies of a step, with the bias added.
 #[derive(Drop)]
@@ -23,8 +20,35 @@ pub struct Span {
     pub high: u64,
 }
 
-// The most entries of a type.
-const MAX_ENTRIES: u64 = View::MAX_FILETYPE_ENTRIES;
+pub const REFUSED_NAME: u64 = 27;
+
+pub const REFUSED_ZERO: u64 = 28;
+
+pub const REFUSED_DIMENSIONS: u64 = 29;
+
+pub const REFUSED_ENTRIES: u64 = 30;
+
+pub const REFUSED_LIMITS: u64 = 31;
+
+const MAX_ENTRIES: u64 = 256;
+
+// A number from here on is negative.
+const HALF: u64 = 9223372036854775808;
+
+// The greatest extent, and the greatest end of an entry.
+const MAX_EXTENT: u64 = 1048576;
+
+fn lesser(a: u64, b: u64) -> u64
+    ensures { result ≡ min a b }
+{
+    if a < b { a } else { b }
+}
+
+fn greater(a: u64, b: u64) -> u64
+    ensures { result ≡ max a b }
+{
+    if a < b { b } else { a }
+}
 
 // The least and the greatest of the first `n` places.
 fn span_of(places: &[u64], n: usize) -> Span
@@ -35,8 +59,8 @@ fn span_of(places: &[u64], n: usize) -> Span
     let mut high = places[0];
     let mut k = 1;
     while k < n {
-        low = laws::smaller(low, places[k]);
-        high = laws::larger(high, places[k]);
+        low = lesser(low, places[k]);
+        high = greater(high, places[k]);
         k += 1;
     }
     Span {
@@ -65,7 +89,7 @@ fn entries_fit(t: Shape, span: Span) -> bool
         return false;
     }
     let high = t.end + span.high * t.extent;
-    high <= View::MAX_ENTRY_END + added
+    high <= MAX_EXTENT + added
 }
 
 // A signed number that is at least 0, and 0 for one below.
@@ -80,10 +104,10 @@ fn extent_of(s: StepNumbers, items: &[u64], t: Shape, span: Span) -> u64
     requires { MakingReady items.now s t span }
     ensures { result ≡ extent_got (step_by items.now s) t span.low span.high }
 {
-    if s.kind == recipe_types::RESIZED {
+    if s.kind == recipe_steps::RESIZED {
         return resized_extent(s.a);
     }
-    if s.kind == recipe_types::SUBARRAY {
+    if s.kind == recipe_steps::SUBARRAY {
         let size = recipe_steps::array_size(s, items);
         return size * t.extent;
     }
@@ -112,10 +136,10 @@ fn shape_made(s: StepNumbers, items: &[u64], t: Shape, span: Span, entries: u64)
     if !entries_fit(t, span) {
         return none_made();
     }
-    if extent < View::MIN_EXTENT {
+    if extent < 1 {
         return none_made();
     }
-    if View::MAX_EXTENT < extent {
+    if MAX_EXTENT < extent {
         return none_made();
     }
     let added = recipe_types::BIAS * t.extent;
@@ -210,10 +234,10 @@ fn few_copies(s: StepNumbers, items: &[u64], entries: u64) -> u64
     n
 }
 
-// Checks a step that passed checks 27 to 29 by checks 30 and 31, and puts it into the table if it is granted.
-fn check_type(steps: &[u64], items: &[u64], i: usize, rows: &mut [u64], places: &mut [u64]) -> u64
+// Judges a step that passed checks 27 to 29 by checks 30 and 31, and puts it into the table if it is granted.
+fn judge_type(steps: &[u64], items: &[u64], i: usize, rows: &mut [u64], places: &mut [u64]) -> u64
     requires { Table (recipe_of steps.now items.now) rows.old places.old i × (i < 32) × (sound_refusal items.now (numbers_at steps.now i) i ≡ 0) }
-    ensures { StepChecked (recipe_of steps.now items.now) i rows.new places.new result }
+    ensures { Judged (recipe_of steps.now items.now) i rows.new places.new result }
 {
     let s = recipe_steps::step_at(steps, i);
     let below = recipe_types::shape_named(rows, s.source, s.name);
@@ -230,8 +254,8 @@ fn check_type(steps: &[u64], items: &[u64], i: usize, rows: &mut [u64], places: 
     0
 }
 
-// Checks step `i` by checks 27 to 31, the steps before it being in the table, and puts it there if it is granted.
-pub fn check_step(
+// Judges step `i` by checks 27 to 31, the steps before it being in the table, and puts it there if it is granted.
+pub fn judge_step(
     steps: &[u64],
     items: &[u64],
     i: usize,
@@ -239,12 +263,12 @@ pub fn check_step(
     places: &mut [u64],
 ) -> u64
     requires { Table (recipe_of steps.now items.now) rows.old places.old i × (i < 32) }
-    ensures { StepChecked (recipe_of steps.now items.now) i rows.new places.new result }
+    ensures { Judged (recipe_of steps.now items.now) i rows.new places.new result }
 {
     let s = recipe_steps::step_at(steps, i);
     let refusal = sound_refusal(s, items, i);
     if refusal != 0 {
         return refusal;
     }
-    check_type(steps, items, i, rows, places)
+    judge_type(steps, items, i, rows, places)
 }

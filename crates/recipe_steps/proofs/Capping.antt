@@ -3,7 +3,6 @@ use Rattle.laws.proofs.Prelude.{ℕ, zero, suc, ◌+◌, ◌*◌, ◌≤◌, ◌
 use Rattle.recipe_types.specs.Typemaps.{product}
 use Rattle.recipe_types.specs.Recipes.{item_number, some_of}
 use Rattle.recipe_types.specs.Parts.{Capped}
-use Rattle.recipe_types.proofs.Building.{product_some}
 use Rattle.recipe_steps.specs.Parts.{Factors}
 
 pub capped_same : (limit n r : ℕ) → r ≡ n → Capped limit n r
@@ -47,7 +46,12 @@ pub product_more : (f : ℕ → ℕ) (i : ℕ) → product f (i + 1) ≡ product
 unfolding product
 product_more f i = rw (add-one i)
 
--- where no factor is 0, a product is at least that of fewer factors
+-- where no factor is 0, a product is not, and it is at least that of fewer factors
+pub product_some : (f : ℕ → ℕ) (n : ℕ) → ((i : ℕ) → i < n → 1 ≤ f i) → 1 ≤ product f n
+unfolding product
+product_some f zero h = omega arith
+product_some f (suc n) h = mul-le-mul {n₁ = 1} {m₁ = 1} (product_some f n (λ i l. h i (omega arith))) (h n (omega arith))
+
 pub product_part : (f : ℕ → ℕ) (i n : ℕ) → ((i : ℕ) → i < n → 1 ≤ f i) → i < n → product f i * f i ≤ product f n
 unfolding product
 product_part f i zero h l = absurd (omega arith)

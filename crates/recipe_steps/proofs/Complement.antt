@@ -1,10 +1,13 @@
 -- Two's complement: what `signed` computes of a signed number with no wrap, and what the code reads of an unsigned one.
 use Rattle.laws.proofs.Prelude.{ℕ, suc, ◌+◌, ◌-◌, ◌≤◌, ◌<◌, ◌≡◌, refl, sym, ap, ◌∙◌, subst, Bool, not, not-true, not-false, true, false, true≢false, arith, ℤ, pos, negsuc, sub_ℕ, ◌-ℤ◌, nat_abs, ltb-true, T, leb, leb-true, ltb, le-ltb, lt_z, non_neg, w64, Fits, SFits, to_z, of_z, to_z-of_z, to_z_pos, natural_sign, natural_fits, minus_negative}
 use mir.Facts.{to_z-neg}
-use Rattle.rule_limits.proofs.Numbers.{negative}
 use Rattle.recipe_types.specs.Parts.{near}
 use Rattle.recipe_types.proofs.Integers.{up, down, is_sub, sub_pos}
 use Rattle.recipe_steps.specs.Parts.{Biased}
+
+negative : (z : ℤ) → lt_z z (pos 0) ≡ true → (n : ℕ) × (z ≡ negsuc n)
+negative (pos n) h = absurd (omega (arith, ltb-true n 0 h))
+negative (negsuc n) h = (n, refl)
 
 module _ (z : ℤ) (f : SFits w64 z) where
   read : to_z w64 (of_z w64 z) ≡ z

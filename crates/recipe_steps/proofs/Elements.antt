@@ -5,7 +5,7 @@ use Rattle.recipe_types.specs.Recipes.{item_number, dimension_at}
 use Rattle.recipe_types.proofs.Integers.{sub_pos}
 use Rattle.recipe_steps.specs.Parts.{numbers_from, dimensions_from, Put, ArrayReady, ElementAt}
 use Rattle.recipe_steps.proofs.Complement.{low_is}
-use Rattle.recipe_types.proofs.Building.{product_some}
+use Rattle.recipe_steps.proofs.Capping.{product_some}
 use Rattle.recipe_steps.proofs.Placing.{one_put}
 
 pub element_none : (items : List ℕ) (first n k : ℕ) → n ≡ 0 → ElementAt items first n k 0

@@ -51,8 +51,8 @@ module _ (items : List ℕ) (first n i at : ℕ) (s : Indexed items first n i at
     pub indexed_fits : Fits w64 (at + each)
     indexed_fits = record { fits = omega (arith, end_in) }
 
-    pub indexed_next : Indexed items first n (i + 1) (at + each)
-    indexed_next = record { ready = s.ready; reached = omega arith; at_is = omega (arith, s.at_is, own, total_more (numbers_from items first 0) i) }
+    pub indexed_more : Indexed items first n (i + 1) (at + each)
+    indexed_more = record { ready = s.ready; reached = omega arith; at_is = omega (arith, s.at_is, own, total_more (numbers_from items first 0) i) }
 
     pub indexed_small : (z : ℤ) (start : ℕ) → Biased z start → start + each ≤ 2147483648
     indexed_small z start b = omega (arith, b.high, end_in)

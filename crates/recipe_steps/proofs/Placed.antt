@@ -1,11 +1,11 @@
 -- The places of a step's copies, by the kind: what each call asks, and what it gives.
 use Rattle.laws.proofs.Prelude.{ℕ, ◌+◌, ◌*◌, ◌≤◌, ◌≡◌, refl, sym, ⊎_elim, List, arith, length, set, leb-true, pos, w64, to_z, store, total, all_at, within_inv, lt_or_le}
-use Rattle.recipe_types.specs.Typemaps.{vector_place, block_place, element_place, product}
+use Rattle.recipe_types.specs.Typemaps.{block_place, element_place, product}
 use Rattle.recipe_types.specs.Recipes.{item_number, block_at, dimension_at}
 use Rattle.recipe_types.specs.Parts.{Capped, copies_of, place_of, step_near, near}
 use Rattle.recipe_types.proofs.Integers.{sub_pos}
 use Rattle.recipe_steps.specs.declared.StepNumbers.{StepNumbers}
-use Rattle.recipe_steps.specs.Parts.{step_by, numbers_from, blocks_from, dimensions_from, Placeable, PlacesPut, Put, VectorReady, IndexedReady, ArrayReady}
+use Rattle.recipe_steps.specs.Parts.{step_by, numbers_from, blocks_from, dimensions_from, vector_place, Placeable, PlacesPut, Put, VectorReady, IndexedReady, ArrayReady}
 use Rattle.recipe_steps.proofs.Steps.{kind_1, kind_2, kind_3, kind_4, kind_5}
 use Rattle.recipe_steps.proofs.Arrays.{inside_start, inside_end}
 use Rattle.recipe_steps.proofs.Checked.{length_some, subsize_some, dimension_inside}
@@ -43,7 +43,7 @@ module _ (items : List ℕ) (s : StepNumbers) (p : Placeable items s) where
     vector_ready = record { some = length_some items s p.sound k; few = rw (kind_2 items s k) at p.few; near = rw (kind_2 items s k) at p.near }
 
     pub vector_placed : (out out' : List ℕ) → Put (vector_place s.b (to_z w64 s.c)) (s.a * s.b) out out' → PlacesPut items s out out'
-    unfolding copies_of place_of
+    unfolding copies_of place_of vector_place
     vector_placed out out' r = record { places = rw (kind_2 items s k) r.places; length_stays = r.length_stays }
 
   -- ---- indexed

@@ -4,8 +4,7 @@ use native.Mathlib.Nat.{mul_comm}
 use lib.IntN.{◌*ℤ◌, *ℤ_comm, zero-*ℤ}
 use Rattle.recipe_types.specs.Parts.{Places, near}
 use Rattle.recipe_types.proofs.Integers.{pos_is, sub_is, same_is, sum_is, times_is, is_equal, sub_pos}
-use Rattle.recipe_types.specs.Typemaps.{vector_place}
-use Rattle.recipe_steps.specs.Parts.{Put, Biased, BlocksReady, VectorReady}
+use Rattle.recipe_steps.specs.Parts.{vector_place, Put, Biased, BlocksReady, VectorReady}
 use Rattle.recipe_steps.specs.declared.StepNumbers.{StepNumbers}
 
 -- ---- a run

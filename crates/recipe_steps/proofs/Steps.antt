@@ -1,12 +1,12 @@
 -- A step by its numbers: it is the recipe's step, and what it is for each kind.
 use Rattle.laws.proofs.Prelude.{ℕ, ◌+◌, ◌*◌, ◌≡◌, List, add-zero}
-use Rattle.recipe_types.specs.Recipes.{Recipe, step_of, recipe_step, step_number, names_allowed, step_names, block_at, dimension_at, signed, contiguous_step, vector_step, indexed_step, subarray_step, resized_step}
+use Rattle.recipe_types.specs.Recipes.{Recipe, step_of, recipe_step, step_number, names, block_at, dimension_at, signed, contiguous_step, vector_step, indexed_step, subarray_step, resized_step}
 use Rattle.recipe_steps.specs.declared.StepNumbers.{StepNumbers}
-use Rattle.recipe_steps.specs.Parts.{numbers_at, step_by}
+use Rattle.recipe_steps.specs.Parts.{numbers_at, step_by, names_by}
 
-pub names_is : (r : Recipe) (i : ℕ) (s : StepNumbers) → s ≡ numbers_at r.steps i → names_allowed s.kind s.source s.name i ≡ step_names r i
-unfolding numbers_at step_names step_number
-names_is r i s e = rw (e, add-zero (6 * i))
+pub names_is : (r : Recipe) (i : ℕ) → names_by (numbers_at r.steps i) i ≡ names r i
+unfolding names_by numbers_at names step_number
+names_is r i = rw (add-zero (6 * i))
 
 pub step_is : (r : Recipe) (i : ℕ) → step_by r.items (numbers_at r.steps i) ≡ recipe_step r i
 unfolding step_by numbers_at recipe_step step_number

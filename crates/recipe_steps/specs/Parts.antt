@@ -1,11 +1,12 @@
 -- Need not be believed. A step by its numbers, and what the functions of this crate ask of it.
-use Rattle.std.specs.Prelude.{ℕ, ◌+◌, ◌*◌, ◌≤◌, ◌<◌, true, List, ◌≡◌, eqb, ℤ, pos, length}
+use Rattle.std.specs.Prelude.{ℕ, ◌+◌, ◌*◌, ◌/◌, ◌%◌, ◌≤◌, ◌<◌, Bool, true, List, ◌≡◌, ltb, eqb, ℤ, pos, ◌+ℤ◌, ◌*ℤ◌, length}
 use Rattle.std.proofs.Math.IntN.{sub_ℕ}
 use Rattle.std.specs.Int.{w64}
 use Rattle.std.proofs.Common.{to_z}
-use Rattle.laws.specs.Checks.{either, within}
+use Rattle.laws.specs.Checks.{also, either, within}
 use Rattle.laws.specs.Lists.{nth}
 use Rattle.laws.specs.Search.{all, total}
+use Rattle.view.specs.Limits.{width_allowed}
 use Rattle.recipe_types.specs.Typemaps.{Block, Dimension, element_place, product}
 use Rattle.recipe_types.specs.Recipes.{Step, step_of, none_zero, dimensions_allowed, block_at, dimension_at, some_of, item_number}
 use Rattle.recipe_types.specs.Parts.{copies_of, place_of, step_near, near, bias, max_place, Places}
@@ -25,6 +26,13 @@ numbers_at steps i = record {
 -- the step of these numbers
 unfoldable pub step_by : List ℕ → StepNumbers → Step
 step_by items s = step_of items s.kind s.a s.b s.c
+
+-- it names a basic width or a step before i
+unfoldable pub names_by : StepNumbers → ℕ → Bool
+names_by s i =
+    also (within 1 5 s.kind)
+    (either (also (eqb s.source 1) (width_allowed s.name))
+    (also (eqb s.source 2) (ltb s.name i)))
 
 -- the step has passed the checks on its kind, on zeros and on dimensions
 pub record Sound (items : List ℕ) (s : StepNumbers) : Type 0 where
@@ -61,6 +69,10 @@ blocks_from items first i = block_at items (first + i)
 
 unfoldable pub dimensions_from : List ℕ → ℕ → ℕ → Dimension
 dimensions_from items first i = dimension_at items (first + i)
+
+-- where copy k of blocks of equal length lies
+unfoldable pub vector_place : ℕ → ℤ → ℕ → ℤ
+vector_place each stride k = pos (k / each) *ℤ stride +ℤ pos (k % each)
 
 -- a list has these places at its front, and its length stays
 pub record Put (place : ℕ → ℤ) (n : ℕ) (before after : List ℕ) : Type 0 where

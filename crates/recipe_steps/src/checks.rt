@@ -4,21 +4,18 @@ ghost use Rattle.laws.specs.Search.{all};
 ghost use Rattle.recipe_types.specs.Recipes.{none_zero, dimensions_allowed, inside, some_of, item_number, dimension_at};
 ghost use Rattle.recipe_steps.specs.Parts.{step_by};
 
-use crate::items::{item_number, whole_items};
-use crate::{StepNumbers, items};
-use recipe_types::{CONTIGUOUS, HALF, INDEXED, SUBARRAY, VECTOR};
+use crate::items::item_number;
+use crate::signs::HALF;
+use crate::{CONTIGUOUS, INDEXED, SUBARRAY, StepNumbers, VECTOR, items};
 
 // The most dimensions of a subarray.
 const MAX_DIMENSIONS: u64 = 4;
 
-// Whether number `which` of each of `n` items from item `first` on is at least 1. Of more items than the list has whole, one has it not.
+// Whether number `which` of each of `n` items from item `first` on is at least 1. No item past the end of the list is, so the loop ends there.
 fn all_some(items: &[u64], first: u64, n: u64, which: u64) -> bool
     requires { which < 3 }
     ensures { result ≡ all (λ i. some_of (item_number items.now (first + i) which)) n }
 {
-    if whole_items(items) < n {
-        return false;
-    }
     let mut i = 0;
     while i < n {
         if item_number(items, first, i, which) < 1 {

@@ -10,14 +10,12 @@ ghost use Rattle.recipe_steps.specs.Parts.{step_by, Sound, Factors};
 
 use crate::items::item_number;
 use crate::signs::{MAX_PLACE, is_near};
-use crate::{StepNumbers, items};
-use recipe_types::{CONTIGUOUS, INDEXED, SUBARRAY, VECTOR};
-use view::View;
+use crate::{CONTIGUOUS, INDEXED, SUBARRAY, StepNumbers, VECTOR, items};
 
 // The most entries of a type, so the most copies that matter.
-const MAX_COPIES: u64 = View::MAX_FILETYPE_ENTRIES;
+const MAX_COPIES: u64 = 256;
 
-// The sum of the block lengths of `n` blocks from item `first` on. Where none of them is 0, at most 257 blocks are looked at.
+// The sum of the block lengths of `n` blocks from item `first` on. Each block has a copy, so the loop ends soon.
 fn total_length(items: &[u64], first: u64, n: u64) -> u64
     ensures { Capped 256 (total (λ i. item_number items.now (first + i) 0) n) result }
 {

@@ -7,13 +7,12 @@ mod signs;
 
 ghost use Rattle.std.specs.Prelude.{◌≡◌, eqb, ◌<◌};
 ghost use Rattle.laws.specs.Checks.{either};
-ghost use Rattle.recipe_types.specs.Recipes.{names_allowed};
-ghost use Rattle.recipe_steps.specs.Parts.{numbers_at};
+ghost use Rattle.recipe_steps.specs.Parts.{numbers_at, names_by};
 
 pub use checks::{dimensions_allowed, none_zero};
 pub use counting::{array_size, copies, near_enough};
 pub use places::put_places;
-use recipe_types::{BASIC, CONTIGUOUS, RESIZED, STEP, STEP_SIZE, SUBARRAY, number};
+use recipe_types::number;
 use rule_limits::width_allowed;
 pub use signs::signed;
 
@@ -27,6 +26,24 @@ pub struct StepNumbers {
     pub b: u64,
     pub c: u64,
 }
+
+pub const CONTIGUOUS: u64 = 1;
+
+pub const VECTOR: u64 = 2;
+
+pub const INDEXED: u64 = 3;
+
+pub const SUBARRAY: u64 = 4;
+
+pub const RESIZED: u64 = 5;
+
+// What a step names: a basic width, or an earlier step.
+pub const BASIC: u64 = 1;
+
+pub const STEP: u64 = 2;
+
+// How many numbers a step has.
+const STEP_SIZE: usize = 6;
 
 // The numbers of step `i`.
 pub fn step_at(steps: &[u64], i: usize) -> StepNumbers
@@ -52,7 +69,7 @@ pub fn step_at(steps: &[u64], i: usize) -> StepNumbers
 
 // Whether step `i`, of one of the five kinds, names a basic width or an earlier step.
 pub fn names_allowed(s: StepNumbers, i: usize) -> bool
-    ensures { result ≡ names_allowed s.kind s.source s.name i }
+    ensures { result ≡ names_by s i }
 {
     if s.kind < CONTIGUOUS {
         return false;

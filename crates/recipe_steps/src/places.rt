@@ -5,15 +5,14 @@ ghost use Rattle.std.specs.Int.{w64};
 ghost use Rattle.std.proofs.Common.{to_z};
 ghost use Rattle.laws.specs.Search.{total};
 ghost use Rattle.laws.specs.Parts.{store};
-ghost use Rattle.recipe_types.specs.Typemaps.{vector_place, block_place, element_place};
+ghost use Rattle.recipe_types.specs.Typemaps.{block_place, element_place};
 ghost use Rattle.recipe_types.specs.Parts.{bias};
-ghost use Rattle.recipe_steps.specs.Parts.{numbers_from, blocks_from, dimensions_from, Placeable, PlacesPut, Put, BlocksReady, VectorReady, IndexedReady, ArrayReady, ElementAt};
+ghost use Rattle.recipe_steps.specs.Parts.{numbers_from, blocks_from, dimensions_from, vector_place, Placeable, PlacesPut, Put, BlocksReady, VectorReady, IndexedReady, ArrayReady, ElementAt};
 
 use crate::counting::copies;
 use crate::items::item_number;
-use crate::signs::biased;
-use crate::{StepNumbers, items};
-use recipe_types::{BIAS, CONTIGUOUS, INDEXED, SUBARRAY, VECTOR};
+use crate::signs::{BIAS, biased};
+use crate::{CONTIGUOUS, INDEXED, SUBARRAY, StepNumbers, VECTOR, items};
 
 // Puts `start`, `start + 1` and so on, `n` numbers, into `out` from `at` on.
 fn put_run(out: &mut [u64], at: usize, start: u64, n: usize)

@@ -5,13 +5,14 @@ ghost use Rattle.std.proofs.Common.{to_z};
 ghost use Rattle.recipe_types.specs.Parts.{near};
 ghost use Rattle.recipe_steps.specs.Parts.{Biased};
 
-use recipe_types::{BIAS, HALF};
-use view::View;
-
+// A number from here on is negative.
+pub const HALF: u64 = 9223372036854775808;
 // The greatest unsigned number, which stands for -1.
 const LAST: u64 = 18446744073709551615;
-// Places are near if they are at most this far from 0: further away no entry ends within its limit.
-pub const MAX_PLACE: u64 = View::MAX_ENTRY_END;
+// Places are near if they are at most this far from 0.
+pub const MAX_PLACE: u64 = 1048576;
+// What is added to a place, so that none is negative.
+pub const BIAS: u64 = 1073741824;
 
 // A signed number as it stands in a recipe.
 pub fn signed(z: i64) -> u64

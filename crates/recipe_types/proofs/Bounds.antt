@@ -69,43 +69,43 @@ entries_limits es x y a b c d p q dx dy = iff (every kept_by es) (also (leb b a)
 
 -- ---- the entries and the markers of copies, where copy k is moved by shift k
 
--- copies of a type without markers have none
+-- no marker of a type is no marker of the copies
 joined_none : (shift : ℕ → ℤ) (n : ℕ) → joined (λ k. map (λ z. z +ℤ shift k) []) n ≡ []
 unfolding joined
 joined_none shift zero = refl
 joined_none shift (suc n) = rw (joined_none shift n)
 
--- the least of the markers, if there are any, is the least of the markers or else of what is given
+-- where there are markers, their least is that of the markers or else of what is given
 or_lowest : (l given : List ℤ) (x : ℤ) → Lowest l x → Lowest (markers_else l given) x
 unfolding markers_else
 or_lowest [] given x p = absurd (elim p.some [ ])
 or_lowest (z ∷ l) given x p = p
 
--- the greatest of the markers, if there are any, is the greatest of the markers or else of what is given
+-- where there are markers, their greatest is that of the markers or else of what is given
 or_highest : (l given : List ℤ) (x : ℤ) → Highest l x → Highest (markers_else l given) x
 unfolding markers_else
 or_highest [] given x p = absurd (elim p.some [ ])
 or_highest (z ∷ l) given x p = p
 
 module _ (shift : ℕ → ℤ) (n : ℕ) (x y : ℤ) (at : ℕ) (below : at < n) (is : shift at ≡ y) where
-  -- the least of the markers, or of what else is given, of copies is that of the type plus the least shift
+  -- the least of the markers, or of what else is given
   joined_lower : (markers given copied : List ℤ) → ((k : ℕ) → k < n → Above y (shift k)) → Lowest (markers_else markers given) x → (Lowest given x → Lowest copied (x +ℤ y)) → Lowest (markers_else (joined (λ k. map (λ z. z +ℤ shift k) markers) n) copied) (x +ℤ y)
   unfolding markers_else
   joined_lower [] given copied h p f = rw (joined_none shift n) (f p)
   joined_lower (m ∷ markers) given copied h p f = or_lowest (joined (λ k. map (λ z. z +ℤ shift k) (m ∷ markers)) n) copied (x +ℤ y) (lowest_joined shift (m ∷ markers) n x y at below is p h)
 
-  -- the greatest of the markers, or of what else is given, of copies is that of the type plus the greatest shift
+  -- the greatest of the markers, or of what else is given
   joined_upper : (markers given copied : List ℤ) → ((k : ℕ) → k < n → Above (shift k) y) → Highest (markers_else markers given) x → (Highest given x → Highest copied (x +ℤ y)) → Highest (markers_else (joined (λ k. map (λ z. z +ℤ shift k) markers) n) copied) (x +ℤ y)
   unfolding markers_else
   joined_upper [] given copied h p f = rw (joined_none shift n) (f p)
   joined_upper (m ∷ markers) given copied h p f = or_highest (joined (λ k. map (λ z. z +ℤ shift k) (m ∷ markers)) n) copied (x +ℤ y) (highest_joined shift (m ∷ markers) n x y at below is p h)
 
--- the end of a moved entry is moved as far
+-- the end of a moved entry
 pub end_moves : (s : ℤ) (e : Entry) → end_of (shifted s e) ≡ end_of e +ℤ s
 unfolding end_of shifted
 end_moves s e = is_equal (sum_is (sum_is (self_is e.displacement) (self_is s)) (pos_is e.width)) (sum_is (sum_is (self_is e.displacement) (pos_is e.width)) (self_is s)) (omega arith)
 
--- the displacement of a moved entry is moved as far
+-- the displacement of a moved entry
 displacement_moves : (s : ℤ) (e : Entry) → (shifted s e).displacement ≡ e.displacement +ℤ s
 unfolding shifted
 displacement_moves s e = refl
@@ -113,7 +113,7 @@ displacement_moves s e = refl
 -- ---- copies of a type at places: low is the least place and high the greatest, with the bias added
 
 module _ (t : Typemap) (ex : ℕ) (size : extent t ≡ pos ex) (place : ℕ → ℤ) (n : ℕ) (l : List ℕ) (p : Places place n l) where
-  -- a copy is moved by its place times the extent, as a difference of natural numbers
+  -- how far a copy is moved
   pub shift_is : (k : ℕ) → k < n → Difference (place k *ℤ extent t) (nth l k * ex) (bias * ex)
   shift_is k h = same_is (ap (λ (z : ℤ). place k *ℤ z) size) (times_is ex (same_is (p.is k h) (sub_is (nth l k) bias)))
 
@@ -141,20 +141,20 @@ module _ (t : Typemap) (ex : ℕ) (size : extent t ≡ pos ex) (place : ℕ → 
     high_above : (k : ℕ) → k < n → Above (place k *ℤ extent t) greatest_shift
     high_above k h = above_is (shift_is k h) (sub_is (high * ex) (bias * ex)) (omega (arith, mul-le-mul_right ex (q.within k h).1))
 
-    -- the least displacement of the copies is that of the type plus the least shift
+    -- the least displacement of the copies
     pub copies_low : (x : ℤ) → Lowest (map (λ e. e.displacement) t.entries) x → Lowest (map (λ e. e.displacement) (joined (λ k. map (shifted (place k *ℤ extent t)) t.entries) n)) (x +ℤ least_shift)
     copies_low x h = lowest_images (λ e. e.displacement) (λ k. shifted (place k *ℤ extent t)) (λ k. place k *ℤ extent t) (λ k e. displacement_moves (place k *ℤ extent t) e) t.entries n x least_shift h q.low_at q.low_in low_shift low_below
 
-    -- the greatest end of the copies is that of the type plus the greatest shift
+    -- the greatest end of the copies
     pub copies_high : (x : ℤ) → Highest (map end_of t.entries) x → Highest (map end_of (joined (λ k. map (shifted (place k *ℤ extent t)) t.entries) n)) (x +ℤ greatest_shift)
     copies_high x h = highest_images end_of (λ k. shifted (place k *ℤ extent t)) (λ k. place k *ℤ extent t) (λ k e. end_moves (place k *ℤ extent t) e) t.entries n x greatest_shift h q.high_at q.high_in high_shift high_above
 
-    -- the least of what the lower bound of the copies is taken from is that of the type plus the least shift
+    -- the least of what the lower bound of the copies is taken from
     pub copies_lower : (x : ℤ) → Lowest (lowers t) x → Lowest (lowers (copies n place t)) (x +ℤ least_shift)
     unfolding lowers copies
     copies_lower x h = joined_lower (λ k. place k *ℤ extent t) n x least_shift q.low_at q.low_in low_shift t.lower_markers (map (λ e. e.displacement) t.entries) (map (λ e. e.displacement) (joined (λ k. map (shifted (place k *ℤ extent t)) t.entries) n)) low_below h (copies_low x)
 
-    -- the greatest of what the upper bound of the copies is taken from is that of the type plus the greatest shift
+    -- the greatest of what the upper bound of the copies is taken from
     pub copies_upper : (x : ℤ) → Highest (uppers t) x → Highest (uppers (copies n place t)) (x +ℤ greatest_shift)
     unfolding uppers copies
     copies_upper x h = joined_upper (λ k. place k *ℤ extent t) n x greatest_shift q.high_at q.high_in high_shift t.upper_markers (map end_of t.entries) (map end_of (joined (λ k. map (shifted (place k *ℤ extent t)) t.entries) n)) high_above h (copies_high x)

@@ -1,13 +1,12 @@
 -- Laws of the type that each step of a recipe means: which type it is made of, and its entries as shifted copies. Assumes nothing.
-use mathlib.Core.List.{List, [], ◌∷◌, ◌++◌, map, map-append, append-nil, append_assoc}
-use lib.IntN.{ℤ, pos, ◌+ℤ◌, ◌*ℤ◌, +ℤ_idr, zero-*ℤ}
+use mathlib.Core.List.{List, [], ◌∷◌, ◌++◌, map, map-append}
+use lib.IntN.{ℤ, pos, ◌*ℤ◌, +ℤ_idr, zero-*ℤ}
 use lib.ListN.{length, length-append, length-map}
 use native.Mathlib.Nat.{one-le-mul, suc-mul}
-use Rattle.laws.proofs.Prelude.{ℕ, zero, suc, ◌+◌, ◌-◌, ◌*◌, ◌≤◌, ◌<◌, ◌≡◌, refl, sym, ap, ◌∙◌, true, ⊎_elim, eq-or-lt_of_le, arith, eq-eqb, ne_eqb, leb-true, add-zero, add-suc, zero-mul, also_inv, all, all_at, total}
+use Rattle.laws.proofs.Prelude.{ℕ, zero, suc, ◌-◌, ◌*◌, ◌≤◌, ◌<◌, ◌≡◌, refl, sym, ap, ◌∙◌, true, ⊎_elim, eq-or-lt_of_le, arith, eq-eqb, ne_eqb, leb-true, zero-mul, also_inv, all, all_at, total}
 use Rattle.recipe_types.specs.Typemaps.{Entry, Typemap, extent, joined, shifted, copies, bounded, basic, contiguous, vector, indexed, subarray, resized, product}
 use Rattle.recipe_types.specs.Recipes.{Recipe, step_number, Step, contiguous_step, vector_step, indexed_step, subarray_step, resized_step, no_step, recipe_step, construct, named, types_before, step_type, step_count, some_of, none_zero, meaning}
 use Rattle.recipe_types.specs.Parts.{copies_of, place_of}
-use Rattle.recipe_types.proofs.Integers.{self_is, sum_is, product_is, is_equal}
 
 -- ---- the type of a step
 
@@ -18,7 +17,7 @@ types_before_law r zero k l = absurd (omega arith)
 types_before_law r (suc n) k l =
     ⊎_elim (λ e. rw e) (λ q. rw (ne_eqb k n (λ e. omega arith)) (types_before_law r n k q)) (eq-or-lt_of_le {n = k} {m = n} (omega arith))
 
--- the type of a step is made of what it names among the types before it
+-- the type of a step, made of what it names among the types before it
 type_is : (r : Recipe) (i : ℕ) → step_type r i ≡ construct (recipe_step r i) (named r (types_before r i) i)
 unfolding types_before step_type
 type_is r i = rw (eq-eqb i i refl)
@@ -34,13 +33,13 @@ unfolding named
 type_is_step r i e l = type_is r i ∙ rw (named, ne_eqb (step_number r i 1) 1 (λ q. omega arith), types_before_law r i (step_number r i 2) l)
 
 -- a recipe means the type of its last step
-pub meaning_is : (r : Recipe) → meaning r ≡ step_type r (step_count r - 1)
+pub meaning_is : (r : Recipe) → 1 ≤ step_count r → meaning r ≡ step_type r (step_count r - 1)
 unfolding meaning
-meaning_is r = refl
+meaning_is r l = types_before_law r (step_count r) (step_count r - 1) (omega arith)
 
 -- ---- lists one after another
 
--- n lists of m elements each have n times m elements together
+-- the joined lists are as long as all of them together, if each has m elements
 pub length_joined : {A : Type 0} (f : ℕ → List A) (m n : ℕ) → ((k : ℕ) → k < n → length (f k) ≡ m) → length (joined f n) ≡ n * m
 unfolding joined
 length_joined f m zero h = sym (zero-mul m)
@@ -55,60 +54,11 @@ joined_same f g (suc n) h =
     let b = h n (omega arith) in
     cc
 
--- to apply a function to each element of the joined list is to apply it to each element of each list
+-- a function of each element of the joined list is a function of each element of each list
 pub map_joined : {A B : Type 0} (h : A → B) (f : ℕ → List A) (n : ℕ) → map h (joined f n) ≡ joined (λ k. map h (f k)) n
 unfolding joined
 map_joined h f zero = refl
 map_joined h f (suc n) = map-append h (joined f n) (f n) ∙ ap (λ l. l ++ map h (f n)) (map_joined h f n)
-
--- m + n lists one after another are the first m, then the n after them
-pub joined_more : {A : Type 0} (f : ℕ → List A) (m n : ℕ) → joined f (m + n) ≡ joined f m ++ joined (λ k. f (m + k)) n
-unfolding joined
-joined_more f m zero = rw (add-zero m, append-nil (joined f m))
-joined_more f m (suc n) = rw (add-suc m n, joined_more f m n) (append_assoc (joined f m) (joined (λ k. f (m + k)) n) (f (m + n)))
-
--- n times b lists one after another are n runs of b lists each
-pub joined_runs : {A : Type 0} (f : ℕ → List A) (n b : ℕ) → joined f (n * b) ≡ joined (λ j. joined (λ k. f (j * b + k)) b) n
-unfolding joined
-joined_runs f zero b = rw (zero-mul b)
-joined_runs f (suc n) b = rw (suc-mul n b, joined_more f (n * b) b, joined_runs f n b)
-
--- ---- copies of a type
-
--- as many copies at the same places are the same type
-pub copies_same : (m n : ℕ) (f g : ℕ → ℤ) (t : Typemap) → m ≡ n → ((k : ℕ) → k < n → f k ≡ g k) → copies m f t ≡ copies n g t
-unfolding copies
-copies_same m n f g t e h =
-    let a = joined_same (λ k. map (shifted (f k *ℤ extent t)) t.entries) (λ k. map (shifted (g k *ℤ extent t)) t.entries) n (λ k l. ap (λ p. map (shifted (p *ℤ extent t)) t.entries) (h k l)) in
-    let b = joined_same (λ k. map (λ z. z +ℤ f k *ℤ extent t) t.lower_markers) (λ k. map (λ z. z +ℤ g k *ℤ extent t) t.lower_markers) n (λ k l. ap (λ p. map (λ z. z +ℤ p *ℤ extent t) t.lower_markers) (h k l)) in
-    let c = joined_same (λ k. map (λ z. z +ℤ f k *ℤ extent t) t.upper_markers) (λ k. map (λ z. z +ℤ g k *ℤ extent t) t.upper_markers) n (λ k l. ap (λ p. map (λ z. z +ℤ p *ℤ extent t) t.upper_markers) (h k l)) in
-    rw (e, a, b, c)
-
--- q times x plus p times (m times x) is (p times m plus q) times x, whatever they are added to
-moved_sum : (d p m q x : ℤ) → d +ℤ q *ℤ x +ℤ p *ℤ (m *ℤ x) ≡ d +ℤ (p *ℤ m +ℤ q) *ℤ x
-moved_sum d p m q x =
-    is_equal
-    (sum_is (sum_is (self_is d) (product_is (self_is q) (self_is x))) (product_is (self_is p) (product_is (self_is m) (self_is x))))
-    (sum_is (self_is d) (product_is (sum_is (product_is (self_is p) (self_is m)) (self_is q)) (self_is x)))
-    (omega arith)
-
--- entries moved by q extents x and then by p extents of m times x are moved by (p times m plus q) extents x
-moved_twice : (p m q x : ℤ) (l : List Entry) → map (shifted (p *ℤ (m *ℤ x))) (map (shifted (q *ℤ x)) l) ≡ map (shifted ((p *ℤ m +ℤ q) *ℤ x)) l
-unfolding shifted
-moved_twice p m q x [] = refl
-moved_twice p m q x (e ∷ l) = cc (moved_sum e.displacement p m q x, moved_twice p m q x l)
-
--- the entries of b copies, of which copy k lies at p times m plus near k, are those of a copy of b copies, moved by p extents of m times x
-run_entries : (b : ℕ) (place near : ℕ → ℤ) (p m x : ℤ) (l : List Entry) → ((k : ℕ) → k < b → place k ≡ p *ℤ m +ℤ near k) → joined (λ k. map (shifted (place k *ℤ x)) l) b ≡ map (shifted (p *ℤ (m *ℤ x))) (joined (λ k. map (shifted (near k *ℤ x)) l) b)
-run_entries b place near p m x l h =
-    joined_same (λ k. map (shifted (place k *ℤ x)) l) (λ k. map (shifted (p *ℤ (m *ℤ x))) (map (shifted (near k *ℤ x)) l)) b (λ k i. ap (λ (z : ℤ). map (shifted (z *ℤ x)) l) (h k i) ∙ sym (moved_twice p m (near k) x l))
-    ∙ sym (map_joined (shifted (p *ℤ (m *ℤ x))) (λ k. map (shifted (near k *ℤ x)) l) b)
-
--- the entries of n times b copies, of which copy k of run j lies at far j times m plus near k, are those of n copies of b copies, where the extent of b copies is m times x
-pub runs_entries : (n b : ℕ) (place far near : ℕ → ℤ) (m x : ℤ) (l : List Entry) → ((j k : ℕ) → k < b → place (j * b + k) ≡ far j *ℤ m +ℤ near k) → joined (λ k. map (shifted (place k *ℤ x)) l) (n * b) ≡ joined (λ j. map (shifted (far j *ℤ (m *ℤ x))) (joined (λ k. map (shifted (near k *ℤ x)) l) b)) n
-runs_entries n b place far near m x l h =
-    joined_runs (λ k. map (shifted (place k *ℤ x)) l) n b
-    ∙ joined_same (λ j. joined (λ k. map (shifted (place (j * b + k) *ℤ x)) l) b) (λ j. map (shifted (far j *ℤ (m *ℤ x))) (joined (λ k. map (shifted (near k *ℤ x)) l) b)) n (λ j i. run_entries b (λ k. place (j * b + k)) near (far j) m x l (h j))
 
 -- ---- what a step makes, as shifted copies
 
@@ -128,7 +78,7 @@ construct_entries (subarray_step n dim) t = refl
 construct_entries (resized_step x) t = sym (shifted_none (extent t) t.entries)
 construct_entries no_step t = sym (shifted_none (extent t) t.entries)
 
--- a step makes as many entries as its copies have together
+-- as many entries as the copies have together
 pub entry_count : (s : Step) (t : Typemap) → length (construct s t).entries ≡ copies_of s * length t.entries
 entry_count s t =
     ap length (construct_entries s t)
@@ -136,7 +86,6 @@ entry_count s t =
 
 -- ---- a step without zeros makes at least one copy
 
--- a number that is not refused as 0 is at least 1
 some_of_law : (n : ℕ) → some_of n ≡ true → 1 ≤ n
 unfolding some_of
 some_of_law n h = leb-true 1 n h
@@ -148,7 +97,7 @@ total_some f zero l h = absurd (omega arith)
 total_some f (suc n) l h = omega (arith, h n (omega arith))
 
 -- a product of numbers that are at least 1 is at least 1
-pub product_some : (f : ℕ → ℕ) (n : ℕ) → ((k : ℕ) → k < n → 1 ≤ f k) → 1 ≤ product f n
+product_some : (f : ℕ → ℕ) (n : ℕ) → ((k : ℕ) → k < n → 1 ≤ f k) → 1 ≤ product f n
 unfolding product
 product_some f zero h = omega arith
 product_some f (suc n) h = one-le-mul (product_some f n (λ k l. h k (omega arith))) (h n (omega arith))

@@ -1,11 +1,12 @@
 -- What holds of each or of some element of a list, and the least and the greatest of a list of integers.
-use Rattle.laws.proofs.Prelude.{ℕ, zero, suc, ◌+◌, ◌-◌, ◌≤◌, ◌<◌, ◌≡◌, refl, sym, ap, ◌∙◌, Bool, true, false, cond, List, ◌++◌, map, arith, ℤ, ◌+ℤ◌, leb-true, leb-false, eq-or-lt_of_le, also_true, also_inv, ⊎_elim}
+use Rattle.laws.proofs.Prelude.{ℕ, zero, suc, ◌+◌, ◌-◌, ◌≤◌, ◌<◌, ◌≡◌, refl, sym, ap, ◌∙◌, Bool, true, false, cond, List, ◌++◌, map, arith, ℤ, pos, ◌+ℤ◌, leb-true, leb-false, eq-or-lt_of_le, mul-le-mul_right, also_true, also_inv, ⊎_elim}
 use mathlib.Core.List.{[], ◌∷◌}
+use lib.IntN.{◌*ℤ◌}
 use lib.Signed.{le_z}
 use Rattle.recipe_types.specs.Typemaps.{joined, least, greatest_of}
 use Rattle.recipe_types.specs.Recipes.{every}
 use Rattle.recipe_types.specs.Parts.{Each, none, more, Some, here, later, Above, Lowest, Highest}
-use Rattle.recipe_types.proofs.Integers.{up, down, Difference, self_is, pos_is, sum_is, same_is, is_equal, is_most}
+use Rattle.recipe_types.proofs.Integers.{up, down, Difference, self_is, pos_is, sum_is, times_is, same_is, is_equal, is_most}
 
 -- ---- each element, and some element
 
@@ -29,17 +30,17 @@ pub each_both : {A : Type 0} {P Q : A → Type 0} {l : List A} → Each P l → 
 each_both none s = none
 each_both (more p r) (more q s) = more (p, q) (each_both r s)
 
--- what each element of two lists has, each has of the two one after the other
+-- each element of two lists, one after the other
 pub each_append : {A : Type 0} (P : A → Type 0) {l m : List A} → Each P l → Each P m → Each P (l ++ m)
 each_append P none s = s
 each_append P (more p r) s = more p (each_append P r s)
 
--- what each element of two lists one after the other has, each of the first has
+-- each element of the first of two lists
 pub each_first : {A : Type 0} (P : A → Type 0) (l m : List A) → Each P (l ++ m) → Each P l
 each_first P [] m e = none
 each_first P (x ∷ l) m (more p r) = more p (each_first P l m r)
 
--- and each of the second
+-- each element of the second of two lists
 pub each_second : {A : Type 0} (P : A → Type 0) (l m : List A) → Each P (l ++ m) → Each P m
 each_second P [] m e = e
 each_second P (x ∷ l) m (more p r) = each_second P l m r
@@ -74,13 +75,13 @@ pub some_unmap : {A B : Type 0} (P : B → Type 0) (f : A → B) (l : List A) �
 some_unmap P f (x ∷ l) (here p) = here p
 some_unmap P f (x ∷ l) (later r) = later (some_unmap P f l r)
 
--- what each element of each of n lists has, each has of the lists one after another
+-- each element of n lists one after another
 pub each_joined : {A : Type 0} (P : A → Type 0) (f : ℕ → List A) (n : ℕ) → ((k : ℕ) → k < n → Each P (f k)) → Each P (joined f n)
 unfolding joined
 each_joined P f zero h = none
 each_joined P f (suc n) h = each_append P (each_joined P f n (λ k l. h k (omega arith))) (h n (omega arith))
 
--- what each element of n lists one after another has, each element of each list has
+-- each element of one of n lists one after another
 pub each_part : {A : Type 0} (P : A → Type 0) (f : ℕ → List A) (n k : ℕ) → k < n → Each P (joined f n) → Each P (f k)
 unfolding joined
 each_part P f zero k l e = absurd (omega arith)
@@ -128,13 +129,17 @@ above_trans {x} {y} {z} h k = above_is (self_is x) (self_is z) (omega (arith, ab
 pub above_antisym : {x y : ℤ} → Above x y → Above y x → x ≡ y
 above_antisym {x} {y} h k = is_equal (self_is x) (self_is y) (omega (arith, above_le (self_is x) (self_is y) h, above_le (self_is y) (self_is x) k))
 
--- an integer lies above an equal one, by 0
+-- an equal integer lies above
 pub above_same : {x y : ℤ} → x ≡ y → Above x y
 above_same {x} {y} e = above_is (self_is x) (same_is (sym e) (self_is x)) (omega arith)
 
 -- sums of integers above others lie above the sums of these
 pub above_sum : {x y z w : ℤ} → Above x y → Above z w → Above (x +ℤ z) (y +ℤ w)
 above_sum {x} {y} {z} {w} h k = above_is (sum_is (self_is x) (self_is z)) (sum_is (self_is y) (self_is w)) (omega (arith, above_le (self_is x) (self_is y) h, above_le (self_is z) (self_is w) k))
+
+-- integers above others, times a natural number
+pub above_times : {x y : ℤ} (n : ℕ) → Above x y → Above (x *ℤ pos n) (y *ℤ pos n)
+above_times {x} {y} n h = above_is (times_is n (self_is x)) (times_is n (self_is y)) (omega (arith, mul-le-mul_right n (above_le (self_is x) (self_is y) h)))
 
 -- an integer that another is at most lies above it
 above_test : (x z : ℤ) → le_z x z ≡ true → Above x z
@@ -160,15 +165,15 @@ highest_once p q = above_antisym (greatest_of_law q p) (greatest_of_law p q)
     greatest_of_law : {l : List ℤ} {x y : ℤ} → Highest l x → Highest l y → Above y x
     greatest_of_law p q = let r = each_some p.each q.some in rw r.1.1 at r.1.0
 
--- the number of a list of one is its least
+-- the least of a list of one number
 pub lowest_one : (x : ℤ) → Lowest (x ∷ []) x
 lowest_one x = record { each = more (above_same refl) none; some = here refl }
 
--- the number of a list of one is its greatest
+-- the greatest of a list of one number
 pub highest_one : (x : ℤ) → Highest (x ∷ []) x
 highest_one x = record { each = more (above_same refl) none; some = here refl }
 
--- with one more number in front, the least is that number or the least so far
+-- the least of a list with one more number in front
 lowest_more : (x y : ℤ) (l : List ℤ) → Lowest l y → Lowest (x ∷ l) (cond (le_z x y) x y)
 lowest_more x y l p = by (le_z x y) refl
   where
@@ -176,7 +181,7 @@ lowest_more x y l p = by (le_z x y) refl
     by true e = record { each = more (above_same refl) (each_so (λ z. Above x z) (λ z h. above_trans (above_test x y e) h) p.each); some = here refl }
     by false e = record { each = more (below_test x y e) p.each; some = later p.some }
 
--- with one more number in front, the greatest is that number or the greatest so far
+-- the greatest of a list with one more number in front
 highest_more : (x y : ℤ) (l : List ℤ) → Highest l y → Highest (x ∷ l) (cond (le_z x y) y x)
 highest_more x y l p = by (le_z x y) refl
   where
@@ -190,7 +195,7 @@ unfolding least
 least_lowest x [] = lowest_one x
 least_lowest x (y ∷ l) = lowest_more x (least (y ∷ l)) (y ∷ l) (least_lowest y l)
 
--- `greatest_of` gives the greatest number of a list
+-- `greatest` gives the greatest number of a list
 greatest_highest : (x : ℤ) (l : List ℤ) → Highest (x ∷ l) (greatest_of (x ∷ l))
 unfolding greatest_of
 greatest_highest x [] = highest_one x
@@ -201,7 +206,7 @@ pub least_is : (l : List ℤ) (x : ℤ) → Lowest l x → least l ≡ x
 least_is [] x p = absurd (elim p.some [ ])
 least_is (y ∷ l) x p = lowest_once (least_lowest y l) p
 
--- the greatest number of a list is what `greatest_of` gives
+-- the greatest number of a list is what `greatest` gives
 pub greatest_is : (l : List ℤ) (x : ℤ) → Highest l x → greatest_of l ≡ x
 greatest_is [] x p = absurd (elim p.some [ ])
 greatest_is (y ∷ l) x p = highest_once (greatest_highest y l) p
@@ -236,16 +241,25 @@ module _ {A : Type 0} (g : A → ℤ) (moved : ℕ → A → A) (shift : ℕ →
   }
 
 module _ (shift : ℕ → ℤ) (l : List ℤ) (n : ℕ) (x y : ℤ) (at : ℕ) (below : at < n) (is : shift at ≡ y) where
-  -- the same of a list of integers: its least with the least shift added
+  -- the least of copies of a list of integers
   pub lowest_joined : Lowest l x → ((k : ℕ) → k < n → Above y (shift k)) → Lowest (joined (λ k. map (λ z. z +ℤ shift k) l) n) (x +ℤ y)
   lowest_joined p h = record {
     each = each_lowest (λ z. z) (λ k z. z +ℤ shift k) shift (λ k z. refl) l n x y p.each h;
     some = some_extreme (λ z. z) (λ k z. z +ℤ shift k) shift (λ k z. refl) l n x y p.some at below is;
   }
 
-  -- the same of a list of integers: its greatest with the greatest shift added
+  -- the greatest of copies of a list of integers
   pub highest_joined : Highest l x → ((k : ℕ) → k < n → Above (shift k) y) → Highest (joined (λ k. map (λ z. z +ℤ shift k) l) n) (x +ℤ y)
   highest_joined p h = record {
     each = each_highest (λ z. z) (λ k z. z +ℤ shift k) shift (λ k z. refl) l n x y p.each h;
     some = some_extreme (λ z. z) (λ k z. z +ℤ shift k) shift (λ k z. refl) l n x y p.some at below is;
   }
+
+module _ (place : ℕ → ℤ) (ex : ℕ) (l : List ℤ) (n : ℕ) (x p : ℤ) (at : ℕ) (below : at < n) (is : place at ≡ p) where
+  -- the least of copies at places counted in an extent
+  pub lowest_places : Lowest l x → ((k : ℕ) → k < n → Above p (place k)) → Lowest (joined (λ k. map (λ z. z +ℤ place k *ℤ pos ex) l) n) (x +ℤ p *ℤ pos ex)
+  lowest_places q h = lowest_joined (λ k. place k *ℤ pos ex) l n x (p *ℤ pos ex) at below (ap (λ (z : ℤ). z *ℤ pos ex) is) q (λ k b. above_times ex (h k b))
+
+  -- the greatest of copies at places counted in an extent
+  pub highest_places : Highest l x → ((k : ℕ) → k < n → Above (place k) p) → Highest (joined (λ k. map (λ z. z +ℤ place k *ℤ pos ex) l) n) (x +ℤ p *ℤ pos ex)
+  highest_places q h = highest_joined (λ k. place k *ℤ pos ex) l n x (p *ℤ pos ex) at below (ap (λ (z : ℤ). z *ℤ pos ex) is) q (λ k b. above_times ex (h k b))

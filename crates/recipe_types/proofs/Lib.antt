@@ -5,4 +5,3 @@ pub mod Integers
 pub mod Extremes
 pub mod Bounds
 pub mod Shapes
-pub mod Refusing

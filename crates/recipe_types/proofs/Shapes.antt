@@ -1,29 +1,27 @@
 -- A type's numbers: what they say of its typemap, and how a step makes those of the next type.
-use Rattle.laws.proofs.Prelude.{ℕ, zero, suc, ◌+◌, ◌-◌, ◌*◌, ◌≤◌, ◌<◌, ◌≡◌, refl, sym, ap, ◌∙◌, Bool, true, false, cond, List, map, arith, ℤ, pos, negsuc, sub_ℕ, ◌+ℤ◌, leb, eqb, eqb-true, eq-eqb, ne_eqb, add-mul, mul-le-mul_right, subst, also, also_inv, either, leb-true, leb-false, le-ltb, lt-ltb, within, within_inv, within_high, also_false, true≢false, not_true_false, all, all_at, all_below, least_false, least_false_breaks, total, total_part, eq-or-lt_of_le, div_self, mod_self, iff, ⊎_elim, nth, times_more}
+use Rattle.laws.proofs.Prelude.{ℕ, zero, suc, ◌+◌, ◌-◌, ◌*◌, ◌/◌, ◌%◌, ◌≤◌, ◌<◌, ◌≡◌, refl, sym, ap, ◌∙◌, Bool, true, false, cond, List, map, arith, ℤ, pos, negsuc, sub_ℕ, ◌+ℤ◌, leb, eqb, eqb-true, eq-eqb, ne_eqb, add-mul, mul-le-mul_right, subst, also, also_inv, either, either_inv, leb-true, leb-false, le-ltb, lt-ltb, within, within_inv, within_high, also_false, true≢false, not_true_false, all, all_at, all_below, least_false, least_false_breaks, total, total_part, eq-or-lt_of_le, div_self, mod_self, iff, ⊎_elim, nth, times_more}
 use mathlib.Core.List.{[], ◌∷◌}
 use lib.IntN.{◌*ℤ◌, *ℤ_comm}
 use native.Mathlib.Nat.{one-le-mul, le-mul_of_pos_right}
 use borrow.Author.Tests.{eqb-false}
 use Rattle.view.specs.Types.{whole}
 use Rattle.view.specs.Limits.{width_allowed, entry_displacement_allowed, extent_allowed}
-use Rattle.view.proofs.Accepted.{width_small}
 use Rattle.recipe_types.specs.declared.Shape.{Shape}
-use Rattle.recipe_types.specs.Typemaps.{Entry, Typemap, Block, Dimension, vector_place, block_place, shifted, end_of, markers_else, lower_bound, extent, basic, copies, bounded, contiguous, vector, indexed, subarray, resized, product}
-use Rattle.recipe_types.specs.Recipes.{Step, contiguous_step, vector_step, indexed_step, subarray_step, resized_step, no_step, construct, some_of, none_zero, dimensions_allowed, every, is_zero, limits_allowed}
+use Rattle.recipe_types.specs.Typemaps.{Entry, Typemap, Block, Dimension, element_place, block_place, shifted, end_of, markers_else, lower_bound, extent, basic, copies, bounded, contiguous, vector, indexed, subarray, resized, product}
+use Rattle.recipe_types.specs.Recipes.{Step, contiguous_step, vector_step, indexed_step, subarray_step, resized_step, no_step, construct, some_of, none_zero, dimensions_allowed, every, is_zero, limits_kept}
 use Rattle.recipe_types.specs.Parts.{Each, Above, Lowest, Highest, lowers, uppers, Known, Basic, Places, Spans, copies_of, place_of, near, step_near, bias, max_place, entries_fit, extent_got, limits_by, shape_made, sets_bounds}
 use Rattle.recipe_types.proofs.Integers.{up, down, Difference, self_is, pos_is, sub_is, same_is, other_is, sum_is, times_is, is_equal, is_once, sub_eq}
 use Rattle.recipe_types.proofs.Extremes.{each_some, each_unmap, each_part, every_each, some_unmap, above_le, lowest_one, highest_one}
 use Rattle.recipe_types.proofs.Building.{construct_entries, entry_count}
-use Rattle.recipe_types.proofs.Standard.{subarray_extent, resized_extent}
 use Rattle.recipe_types.proofs.Bounds.{kept_by, bound_lower, bound_extent, allowed_inside, entries_limits, end_moves, shift_is, copies_low, copies_high, copies_lower, copies_upper}
 
 -- ---- what a type's numbers say of its bounds
 
--- the lower bound of a known type is its number `least` less its number `base`
+-- the lower bound of a known type
 lower_is : (t : Typemap) (s : Shape) → Known t s → lower_bound t ≡ sub_ℕ s.least s.base
 lower_is t s k = bound_lower t (sub_ℕ s.least s.base) k.lower
 
--- the extent of a known type is its number `extent`
+-- the extent of a known type is its number
 pub known_extent : (t : Typemap) (s : Shape) → Known t s → extent t ≡ pos s.extent
 known_extent t s k = is_equal (bound_extent t k.lower k.upper (sub_is s.least s.base) (sub_is (s.least + s.extent) s.base)) (pos_is s.extent) (omega arith)
 
@@ -39,11 +37,22 @@ known_lower t s k = zero_is (same_is (lower_is t s k) (sub_is s.least s.base))
 
 -- ---- the basic type of a width
 
--- a number equal to that of a list of one is its least
+-- an allowed width is from 1 to 8
+width_small : (w : ℕ) → width_allowed w ≡ true → (1 ≤ w) × (w ≤ 8)
+unfolding width_allowed
+width_small w h =
+    ⊎_elim (λ e. let q = eqb-true w 1 e in omega arith)
+    (λ f. ⊎_elim (λ e. let q = eqb-true w 2 e in omega arith)
+    (λ g. ⊎_elim (λ e. let q = eqb-true w 4 e in omega arith)
+    (λ e. let q = eqb-true w 8 e in omega arith)
+    (either_inv (eqb w 4) (eqb w 8) g))
+    (either_inv (eqb w 2) (either (eqb w 4) (eqb w 8)) f))
+    (either_inv (eqb w 1) (either (eqb w 2) (either (eqb w 4) (eqb w 8))) h)
+
+-- the least of a list of one number, and the greatest
 only_lowest : (x y : ℤ) → x ≡ y → Lowest (x ∷ []) y
 only_lowest x y e = rw e (lowest_one y)
 
--- and its greatest
 only_highest : (x y : ℤ) → x ≡ y → Highest (x ∷ []) y
 only_highest x y e = rw e (highest_one y)
 
@@ -67,7 +76,12 @@ basic_known w s h b = let q = width_small w h in record {
 
 -- ---- the extent of what a step makes
 
--- the extents from the least place to the end of the copy at the greatest, and those below the least place, are those up to that end
+-- the extent of a type with lower bound 0 and this upper bound
+bounded_extent : (x : ℤ) (t : Typemap) → extent (bounded x t) ≡ x
+unfolding bounded lowers uppers markers_else
+bounded_extent x t = is_equal (bound_extent (bounded x t) (lowest_one (pos 0)) (highest_one x) (pos_is 0) (self_is x)) (self_is x) (omega arith)
+
+-- the extents from the least place to the end of the copy at the greatest, and those below the least place
 span_times : (low high ex : ℕ) → low ≤ high → (high + 1 - low) * ex + low * ex ≡ high * ex + ex
 span_times low high ex h = let e : high + 1 - low + low ≡ high + 1 = omega arith in sym (add-mul (high + 1 - low) low ex) ∙ ap (λ (z : ℕ). z * ex) e ∙ times_more high ex
 
@@ -90,9 +104,10 @@ copies_extent t s k place n l low high p q =
     (pos_is ((high + 1 - low) * s.extent))
     (omega (arith, span_times low high s.extent h))
 
--- the extent of a subarray of a known type is the product of the sizes times the number `extent` of the type
-array_extent : (n : ℕ) (dim : ℕ → Dimension) (t : Typemap) (s : Shape) → Known t s → extent (subarray n dim t) ≡ pos (product (λ i. (dim i).size) n * s.extent)
-array_extent n dim t s k = subarray_extent n dim t ∙ ap (λ (z : ℤ). pos (product (λ i. (dim i).size) n) *ℤ z) (known_extent t s k)
+-- the extent of a subarray is that of the whole array
+subarray_extent : (n : ℕ) (dim : ℕ → Dimension) (t : Typemap) (s : Shape) → Known t s → extent (subarray n dim t) ≡ pos (product (λ i. (dim i).size) n * s.extent)
+unfolding subarray
+subarray_extent n dim t s k = bounded_extent (pos (product (λ i. (dim i).size) n) *ℤ extent t) (copies (product (λ i. (dim i).subsize) n) (element_place dim n) t) ∙ ap (λ (z : ℤ). pos (product (λ i. (dim i).size) n) *ℤ z) (known_extent t s k)
 
 -- the extent keeps its limits if the number that is computed for it does
 extent_got_law : (st : Step) (t : Typemap) (s : Shape) (l : List ℕ) (low high : ℕ) → Known t s → Places (place_of st) (copies_of st) l → Spans l (copies_of st) low high → extent_allowed (extent (construct st t)) ≡ within 1 1048576 (extent_got st s low high)
@@ -100,26 +115,25 @@ unfolding construct contiguous vector indexed subarray resized copies_of place_o
 extent_got_law (contiguous_step count) t s l low high k p q = ap extent_allowed (copies_extent t s k (place_of (contiguous_step count)) (copies_of (contiguous_step count)) l low high p q)
 extent_got_law (vector_step count block_length stride) t s l low high k p q = ap extent_allowed (copies_extent t s k (place_of (vector_step count block_length stride)) (copies_of (vector_step count block_length stride)) l low high p q)
 extent_got_law (indexed_step n block) t s l low high k p q = ap extent_allowed (copies_extent t s k (place_of (indexed_step n block)) (copies_of (indexed_step n block)) l low high p q)
-extent_got_law (subarray_step n dim) t s l low high k p q = ap extent_allowed (array_extent n dim t s k)
-extent_got_law (resized_step x) t s l low high k p q = ap extent_allowed (resized_extent x t) ∙ allowed_whole x
+extent_got_law (subarray_step n dim) t s l low high k p q = ap extent_allowed (subarray_extent n dim t s k)
+extent_got_law (resized_step x) t s l low high k p q = ap extent_allowed (bounded_extent x t) ∙ allowed_whole x
 extent_got_law no_step t s l low high k p q = ap extent_allowed (known_extent t s k)
 
 -- ---- the entries of what a step makes
 
 module _ (st : Step) (t : Typemap) (s : Shape) (l : List ℕ) (low high : ℕ) (k : Known t s) (p : Places (place_of st) (copies_of st) l) (q : Spans l (copies_of st) low high) where
-  -- the least displacement is that of the type plus the least shift
+  -- the least displacement
   made_low : Lowest (map (λ e. e.displacement) (construct st t).entries) (pos s.least +ℤ sub_ℕ (low * s.extent) (bias * s.extent))
   made_low = rw (construct_entries st t) (copies_low t s.extent (known_extent t s k) (place_of st) (copies_of st) l p low high q (pos s.least) k.low)
 
-  -- the greatest end is that of the type plus the greatest shift
+  -- the greatest end
   made_high : Highest (map end_of (construct st t).entries) (pos s.end +ℤ sub_ℕ (high * s.extent) (bias * s.extent))
   made_high = rw (construct_entries st t) (copies_high t s.extent (known_extent t s k) (place_of st) (copies_of st) l p low high q (pos s.end) k.high)
 
-  -- the least displacement as a difference of natural numbers
+  -- the least displacement and the greatest end as differences of natural numbers
   made_low_is : Difference (pos s.least +ℤ sub_ℕ (low * s.extent) (bias * s.extent)) (s.least + low * s.extent) (bias * s.extent)
   made_low_is = other_is (s.least + low * s.extent) (bias * s.extent) (omega arith) (sum_is (pos_is s.least) (sub_is (low * s.extent) (bias * s.extent)))
 
-  -- the greatest end as a difference of natural numbers
   made_high_is : Difference (pos s.end +ℤ sub_ℕ (high * s.extent) (bias * s.extent)) (s.end + high * s.extent) (bias * s.extent)
   made_high_is = other_is (s.end + high * s.extent) (bias * s.extent) (omega arith) (sum_is (pos_is s.end) (sub_is (high * s.extent) (bias * s.extent)))
 
@@ -129,26 +143,25 @@ module _ (st : Step) (t : Typemap) (s : Shape) (l : List ℕ) (low high : ℕ) (
   entries_fit_law = entries_limits (construct st t).entries (pos s.least +ℤ sub_ℕ (low * s.extent) (bias * s.extent)) (pos s.end +ℤ sub_ℕ (high * s.extent) (bias * s.extent)) (s.least + low * s.extent) (bias * s.extent) (s.end + high * s.extent) (bias * s.extent) made_low made_high made_low_is made_high_is
 
 -- what a step makes keeps the limits if the numbers that are computed for it do
-pub limits_by_law : (st : Step) (t : Typemap) (s : Shape) (l : List ℕ) (low high : ℕ) → Known t s → none_zero st ≡ true → Places (place_of st) (copies_of st) l → Spans l (copies_of st) low high → limits_allowed (construct st t) ≡ limits_by st s low high
-unfolding limits_allowed limits_by
-limits_by_law st t s l low high k z p q = rw (entries_fit_law st t s l low high k p q, extent_got_law st t s l low high k p q)
+pub limits_judged : (st : Step) (t : Typemap) (s : Shape) (l : List ℕ) (low high : ℕ) → Known t s → none_zero st ≡ true → Places (place_of st) (copies_of st) l → Spans l (copies_of st) low high → limits_kept (construct st t) ≡ limits_by st s low high
+unfolding limits_kept limits_by
+limits_judged st t s l low high k z p q = rw (entries_fit_law st t s l low high k p q, extent_got_law st t s l low high k p q)
 
 -- ---- the numbers of what a step makes
 
--- a number equal to the least of a list is its least
+-- a number equal to the least of a list
 lowest_same : {l : List ℤ} {x y : ℤ} → x ≡ y → Lowest l x → Lowest l y
 lowest_same {l} e p = subst (λ z. Lowest l z) e p
 
--- a number equal to the greatest of a list is its greatest
+-- a number equal to the greatest of a list
 highest_same : {l : List ℤ} {x y : ℤ} → x ≡ y → Highest l x → Highest l y
 highest_same {l} e p = subst (λ z. Highest l z) e p
 
--- the lower bound that a step sets is `first` less `first`, where `first` is the least displacement
+-- the bounds that a step sets itself, as differences of natural numbers, where the least displacement is `first`
 bounded_lower : (x : ℤ) (t : Typemap) (first : ℕ) → Lowest (lowers (bounded x t)) (sub_ℕ first first)
 unfolding bounded lowers markers_else
 bounded_lower x t first = only_lowest (pos 0) (sub_ℕ first first) (is_equal (pos_is 0) (sub_is first first) (omega arith))
 
--- the upper bound that a step sets is `first` plus the extent less `first`
 bounded_upper : (x : ℤ) (t : Typemap) (first ex : ℕ) → x ≡ pos ex → Highest (uppers (bounded x t)) (sub_ℕ (first + ex) first)
 unfolding bounded uppers markers_else
 bounded_upper x t first ex e = only_highest x (sub_ℕ (first + ex) first) (is_equal (same_is e (pos_is ex)) (sub_is (first + ex) first) (omega arith))
@@ -179,32 +192,32 @@ unfolding whole
 whole_pos (pos n) h = refl
 whole_pos (negsuc n) h = absurd (omega arith)
 
--- the least of what the lower bound is taken from, of what a step makes, is the number `least` less the number `base` that are computed
+-- the least of what the lower bound of what a step makes is taken from
 lowers_made : (st : Step) (t : Typemap) (s : Shape) (l : List ℕ) (low high : ℕ) → Known t s → Places (place_of st) (copies_of st) l → Spans l (copies_of st) low high → bias * s.extent ≤ s.least + low * s.extent → Lowest (lowers (construct st t)) (sub_ℕ (shape_made st s low high).least (shape_made st s low high).base)
 unfolding construct contiguous vector indexed subarray resized copies_of place_of shape_made sets_bounds
 lowers_made (contiguous_step count) t s l low high k p q fits = copied_lower t s k (place_of (contiguous_step count)) (copies_of (contiguous_step count)) l low high p q fits
 lowers_made (vector_step count block_length stride) t s l low high k p q fits = copied_lower t s k (place_of (vector_step count block_length stride)) (copies_of (vector_step count block_length stride)) l low high p q fits
 lowers_made (indexed_step n block) t s l low high k p q fits = copied_lower t s k (place_of (indexed_step n block)) (copies_of (indexed_step n block)) l low high p q fits
-lowers_made (subarray_step n dim) t s l low high k p q fits = bounded_lower _ _ (s.least + low * s.extent - bias * s.extent)
+lowers_made (subarray_step n dim) t s l low high k p q fits = bounded_lower (pos (product (λ i. (dim i).size) n) *ℤ extent t) (copies (product (λ i. (dim i).subsize) n) (element_place dim n) t) (s.least + low * s.extent - bias * s.extent)
 lowers_made (resized_step x) t s l low high k p q fits = bounded_lower x t (s.least + low * s.extent - bias * s.extent)
 lowers_made no_step t s l low high k p q fits =
     lowest_same (sub_eq s.least s.base (s.least + low * s.extent - bias * s.extent) s.base (omega (arith, ap (λ (z : ℕ). z * s.extent) (still_low l 1 low high p q)))) k.lower
 
--- the greatest of what the upper bound is taken from, of what a step makes, lies the number `extent` above that
+-- the greatest of what the upper bound of what a step makes is taken from
 uppers_made : (st : Step) (t : Typemap) (s : Shape) (l : List ℕ) (low high : ℕ) → Known t s → Places (place_of st) (copies_of st) l → Spans l (copies_of st) low high → bias * s.extent ≤ s.least + low * s.extent → 1 ≤ extent_got st s low high → Highest (uppers (construct st t)) (sub_ℕ ((shape_made st s low high).least + (shape_made st s low high).extent) (shape_made st s low high).base)
 unfolding construct contiguous vector indexed subarray resized copies_of place_of shape_made sets_bounds extent_got
 uppers_made (contiguous_step count) t s l low high k p q fits some = copied_upper t s k (place_of (contiguous_step count)) (copies_of (contiguous_step count)) l low high p q fits
 uppers_made (vector_step count block_length stride) t s l low high k p q fits some = copied_upper t s k (place_of (vector_step count block_length stride)) (copies_of (vector_step count block_length stride)) l low high p q fits
 uppers_made (indexed_step n block) t s l low high k p q fits some = copied_upper t s k (place_of (indexed_step n block)) (copies_of (indexed_step n block)) l low high p q fits
-uppers_made (subarray_step n dim) t s l low high k p q fits some = bounded_upper _ _ (s.least + low * s.extent - bias * s.extent) (product (λ i. (dim i).size) n * s.extent) (ap (λ (z : ℤ). pos (product (λ i. (dim i).size) n) *ℤ z) (known_extent t s k))
+uppers_made (subarray_step n dim) t s l low high k p q fits some = bounded_upper (pos (product (λ i. (dim i).size) n) *ℤ extent t) (copies (product (λ i. (dim i).subsize) n) (element_place dim n) t) (s.least + low * s.extent - bias * s.extent) (product (λ i. (dim i).size) n * s.extent) (ap (λ (z : ℤ). pos (product (λ i. (dim i).size) n) *ℤ z) (known_extent t s k))
 uppers_made (resized_step x) t s l low high k p q fits some = bounded_upper x t (s.least + low * s.extent - bias * s.extent) (whole x) (whole_pos x some)
 uppers_made no_step t s l low high k p q fits some =
     highest_same (sub_eq (s.least + s.extent) s.base (s.least + low * s.extent - bias * s.extent + s.extent) s.base (omega (arith, ap (λ (z : ℕ). z * s.extent) (still_low l 1 low high p q)))) k.upper
 
--- the least displacement of a known type is at most the greatest end
-pub known_order : (t : Typemap) (s : Shape) → Known t s → s.least ≤ s.end
+-- the least displacement is at most the greatest end
+ends_after : (t : Typemap) (s : Shape) → Known t s → s.least ≤ s.end
 unfolding end_of
-known_order t s k =
+ends_after t s k =
     let r = each_some (each_unmap (λ z. Above z (pos s.end)) end_of t.entries k.high.each) (some_unmap (λ z. z ≡ pos s.least) (λ e. e.displacement) t.entries k.low.some) in
     omega (arith, above_le (sum_is (same_is r.1.1 (pos_is s.least)) (pos_is r.0.width)) (pos_is s.end) r.1.0)
 
@@ -223,7 +236,7 @@ known_made st t s l low high k z p q h few =
     let ends = leb-true (s.end + high * s.extent) (max_place + bias * s.extent) g.1 in
     let range = within_inv 1 1048576 (extent_got st s low high) f.1 in
     let span : low ≤ high = omega (arith, q.within q.low_at q.low_in) in
-    let order : s.least + low * s.extent ≤ s.end + high * s.extent = omega (arith, known_order t s k, mul-le-mul_right s.extent span) in
+    let order : s.least + low * s.extent ≤ s.end + high * s.extent = omega (arith, ends_after t s k, mul-le-mul_right s.extent span) in
     record {
       counted = entry_count st t ∙ ap (λ (c : ℕ). copies_of st * c) k.counted;
       some = one-le-mul (omega (arith, q.low_in)) k.some;
@@ -256,7 +269,7 @@ copy_within st t s big l k known made p h =
 
 -- ---- steps whose numbers are too large
 
--- an entry further than 2^20 extents away does not lie inside the limits
+-- numbers of an entry further than 2^20 extents away, which does not lie inside the limits
 far_outside : (z : ℤ) (ex least w : ℕ) → 1 ≤ ex → least ≤ 1048576 → near z ≡ false → down z * ex ≤ least + up z * ex → least + up z * ex + w ≤ 1048576 + down z * ex → ⊥
 unfolding near up down
 far_outside (pos m) ex least w some small far a b = omega (arith, leb-false m max_place far, le-mul_of_pos_right {m = ex} m some)
@@ -272,16 +285,15 @@ far_entry z x d w ex least ex_is d_is some small far h =
     (omega (arith, above_le (sum_is at (pos_is w)) (pos_is 1048576) inside.1))
 
 -- with a copy further than 2^20 extents away, what a step makes does not keep the limits
-far_copy : (st : Step) (t : Typemap) (s : Shape) (j : ℕ) → Known t s → j < copies_of st → near (place_of st j) ≡ false → limits_allowed (construct st t) ≡ false
-unfolding limits_allowed shifted
-far_copy st t s j k h far = not_true_false (limits_allowed (construct st t)) (λ kept.
+far_copy : (st : Step) (t : Typemap) (s : Shape) (j : ℕ) → Known t s → j < copies_of st → near (place_of st j) ≡ false → limits_kept (construct st t) ≡ false
+unfolding limits_kept shifted
+far_copy st t s j k h far = not_true_false (limits_kept (construct st t)) (λ kept.
     let each = every_each kept_by (construct st t).entries (also_inv (every kept_by (construct st t).entries) (extent_allowed (extent (construct st t))) kept).0 in
     let r = each_some (copy_each st t (λ e. kept_by e ≡ true) j h each) (some_unmap (λ z. z ≡ pos s.least) (λ e. e.displacement) t.entries k.low.some) in
     far_entry (place_of st j) (extent t) r.0.displacement r.0.width s.extent s.least (known_extent t s k) r.1.1 k.extent_some k.least_few far r.1.0)
 
 -- the first copy of a vector's second block lies at the stride
-second_block : (block_length : ℕ) (stride : ℤ) → 1 ≤ block_length → vector_place block_length stride block_length ≡ stride
-unfolding vector_place
+second_block : (block_length : ℕ) (stride : ℤ) → 1 ≤ block_length → pos (block_length / block_length) *ℤ stride +ℤ pos (block_length % block_length) ≡ stride
 second_block block_length stride h =
     is_equal
     (sum_is (same_is (ap (λ (x : ℕ). pos x *ℤ stride) (div_self h) ∙ *ℤ_comm (pos 1) stride) (times_is 1 (self_is stride))) (same_is (ap pos (mod_self block_length)) (pos_is 0)))
@@ -298,15 +310,15 @@ block_first block (suc n) i h some =
     (λ b. rw (lt-ltb (total f i) (total f n) (omega (arith, total_part f i n b))) (block_first block n i b some))
     (eq-or-lt_of_le {n = i} {m = n} (omega arith))
 
--- if neither of two conditions holds, both are false
+-- if `either` of two conditions is false, both are
 either_false : (a b : Bool) → either a b ≡ false → (a ≡ false) × (b ≡ false)
 unfolding either
 either_false true b h = absurd (true≢false h)
 either_false false b h = (refl, h)
 
 -- a step with a number too large for its copies makes a type that does not keep the limits
-pub far_limits : (st : Step) (t : Typemap) (s : Shape) → Known t s → none_zero st ≡ true → dimensions_allowed st ≡ true → step_near st ≡ false → limits_allowed (construct st t) ≡ false
-unfolding none_zero some_of step_near copies_of place_of limits_allowed construct extent_allowed
+pub far_limits : (st : Step) (t : Typemap) (s : Shape) → Known t s → none_zero st ≡ true → dimensions_allowed st ≡ true → step_near st ≡ false → limits_kept (construct st t) ≡ false
+unfolding none_zero some_of step_near copies_of place_of limits_kept construct extent_allowed
 far_limits (contiguous_step count) t s k z d far = absurd (true≢false far)
 far_limits (vector_step count block_length stride) t s k z d far =
     let some = also_inv (leb 1 count) (leb 1 block_length) z in
@@ -324,6 +336,6 @@ far_limits (indexed_step n block) t s k z d far =
 far_limits (subarray_step n dim) t s k z d far =
     let large = leb-false (product (λ i. (dim i).size) n) max_place far in
     also_false (every kept_by (subarray n dim t).entries) (extent_allowed (extent (subarray n dim t)))
-    (ap extent_allowed (array_extent n dim t s k) ∙ within_high 1 1048576 (product (λ i. (dim i).size) n * s.extent) (omega (arith, le-mul_of_pos_right {m = s.extent} (product (λ i. (dim i).size) n) k.extent_some)))
+    (ap extent_allowed (subarray_extent n dim t s k) ∙ within_high 1 1048576 (product (λ i. (dim i).size) n * s.extent) (omega (arith, le-mul_of_pos_right {m = s.extent} (product (λ i. (dim i).size) n) k.extent_some)))
 far_limits (resized_step x) t s k z d far = absurd (true≢false far)
 far_limits no_step t s k z d far = absurd (true≢false far)

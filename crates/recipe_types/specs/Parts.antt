@@ -1,12 +1,12 @@
 -- Need not be believed. What the code computes with: a step as copies of the type that it names, natural numbers for places that may be negative, and a type's numbers.
-use Rattle.std.specs.Prelude.{ℕ, suc, ◌+◌, ◌-◌, ◌*◌, ◌≤◌, ◌<◌, Bool, true, false, cond, List, [], ◌∷◌, map, ◌≡◌, leb, eqb, ℤ, pos, negsuc, ◌+ℤ◌, length}
+use Rattle.std.specs.Prelude.{ℕ, zero, suc, ◌+◌, ◌-◌, ◌*◌, ◌/◌, ◌%◌, ◌≤◌, ◌<◌, Bool, true, false, cond, List, [], ◌∷◌, map, ◌≡◌, leb, eqb, ℤ, pos, negsuc, ◌+ℤ◌, ◌*ℤ◌, length}
 use Rattle.std.proofs.Math.IntN.{sub_ℕ}
 use Rattle.laws.specs.Checks.{also, either, within}
 use Rattle.laws.specs.Search.{all, total}
 use Rattle.laws.specs.Lists.{nth}
 use Rattle.view.specs.Types.{whole}
 use Rattle.recipe_types.specs.declared.Shape.{Shape}
-use Rattle.recipe_types.specs.Typemaps.{Typemap, end_of, markers_else, vector_place, block_place, element_place, product}
+use Rattle.recipe_types.specs.Typemaps.{Entry, Typemap, Block, Dimension, end_of, markers_else, block_place, element_place, product}
 use Rattle.recipe_types.specs.Recipes.{Step, contiguous_step, vector_step, indexed_step, subarray_step, resized_step, no_step}
 
 -- ---- a step as copies
@@ -22,7 +22,7 @@ copies_of no_step = 1
 
 unfoldable pub place_of : Step → ℕ → ℤ
 place_of (contiguous_step count) k = pos k
-place_of (vector_step count block_length stride) k = vector_place block_length stride k
+place_of (vector_step count block_length stride) k = pos (k / block_length) *ℤ stride +ℤ pos (k % block_length)
 place_of (indexed_step n block) k = block_place block n k
 place_of (subarray_step n dim) k = element_place dim n k
 place_of (resized_step x) k = pos 0
@@ -72,7 +72,7 @@ pub data Some {A : Type 0} (P : A → Type 0) : List A → Type 0 where
   here : {x : A} {l : List A} → P x → Some P (x ∷ l)
   later : {x : A} {l : List A} → Some P l → Some P (x ∷ l)
 
--- z is x plus a natural number
+-- how far z lies above x, and below it
 pub record Above (x z : ℤ) : Type 0 where
   pub by : ℕ
   pub is : z ≡ x +ℤ pos by
@@ -188,6 +188,6 @@ shape_named rows source name = cond (eqb source 1) (basic_shape name) (shape_at 
 pub record Nameable (source name : ℕ) : Type 0 where
   pub earlier : (source ≡ 1 → ⊥) → name < 32
 
--- the numbers of the type that step i names, by its row
+-- the same of step i, by its row
 unfoldable pub shape_below : List ℕ → ℕ → Shape
 shape_below rows i = shape_named rows (nth rows (8 * i + 1)) (nth rows (8 * i + 2))

@@ -19,13 +19,12 @@ pub record Recipe : Type 0 where
 abbrev pub recipe_of : List ℕ → List ℕ → Recipe
 recipe_of steps items = record { steps = steps; items = items }
 
--- number c of step i
+-- number c of step i, and of item i; 0 past the end of the list
 unfoldable pub step_number : Recipe → ℕ → ℕ → ℕ
 step_number r i c = nth r.steps (6 * i + c)
 
--- number c of item i; 0 if the list has not the whole item
 unfoldable pub item_number : List ℕ → ℕ → ℕ → ℕ
-item_number items i c = cond (ltb i (length items / 3)) (nth items (3 * i + c)) 0
+item_number items i c = nth items (3 * i + c)
 
 -- a signed number stands in two's complement
 abbrev pub signed : ℕ → ℤ
@@ -91,15 +90,12 @@ step_count r = length r.steps / 6
 unfoldable pub steps_allowed : Recipe → Bool
 steps_allowed r = also (eqb (length r.steps % 6) 0) (within 1 32 (step_count r))
 
--- 27: step i, of one of the five kinds, names a basic width or an earlier step
-unfoldable pub names_allowed : ℕ → ℕ → ℕ → ℕ → Bool
-names_allowed kind source name i =
-    also (within 1 5 kind)
-    (either (also (eqb source 1) (width_allowed name))
-    (also (eqb source 2) (ltb name i)))
-
-unfoldable pub step_names : Recipe → ℕ → Bool
-step_names r i = names_allowed (step_number r i 0) (step_number r i 1) (step_number r i 2) i
+-- 27: the step, of one of the five kinds, names a basic width or an earlier step
+unfoldable pub names : Recipe → ℕ → Bool
+names r i =
+    also (within 1 5 (step_number r i 0))
+    (either (also (eqb (step_number r i 1) 1) (width_allowed (step_number r i 2)))
+    (also (eqb (step_number r i 1) 2) (ltb (step_number r i 2) i)))
 
 -- 28: no count, block length or subsize is 0; the number of blocks is a count
 unfoldable pub some_of : ℕ → Bool
@@ -134,46 +130,32 @@ unfoldable pub every : {A : Type 0} → (A → Bool) → List A → Bool
 every p [] = true
 every p (x ∷ l) = also (p x) (every p l)
 
-unfoldable pub limits_allowed : Typemap → Bool
-limits_allowed t = also (every (λ e. entry_displacement_allowed e.width e.displacement) t.entries) (extent_allowed (extent t))
+unfoldable pub limits_kept : Typemap → Bool
+limits_kept t = also (every (λ e. entry_displacement_allowed e.width e.displacement) t.entries) (extent_allowed (extent t))
 
 -- 32: the lower bound is 0
 unfoldable pub is_zero : ℤ → Bool
 is_zero (pos n) = eqb n 0
 is_zero (negsuc n) = false
 
--- 33: both lent lists, of these lengths, have room for so many entries
-unfoldable pub room_for : ℕ → ℕ → ℕ → Bool
-room_for entries widths displacements = also (leb entries widths) (leb entries displacements)
+-- 33: a lent list has room for the entries
+unfoldable pub room : Typemap → ℕ → Bool
+room t len = leb (length t.entries) len
 
--- ---- their order
+-- what a step is refused with, 0 if with nothing, where the lent lists have these lengths
+unfoldable pub last_refusal : Typemap → ℕ → ℕ → ℕ
+last_refusal t widths displacements =
+    check (is_zero (lower_bound t)) 32
+    (check (also (room t widths) (room t displacements)) 33 0)
 
--- checks 27 to 29, of a step's own numbers; then what is asked later
-unfoldable pub own_refusal : Bool → Step → ℕ → ℕ
-own_refusal named s later =
-    check named 27
-    (check (none_zero s) 28
-    (check (dimensions_allowed s) 29 later))
-
--- checks 30 and 31, of the type that a step makes; then what is asked later
-unfoldable pub type_refusal : Typemap → ℕ → ℕ
-type_refusal t later =
-    check (entry_count_allowed t) 30
-    (check (limits_allowed t) 31 later)
-
--- checks 32 and 33, of the last step: whether its lower bound is 0, and how many entries it has
-unfoldable pub last_refusal : Bool → ℕ → ℕ → ℕ → ℕ
-last_refusal atZero entries widths displacements =
-    check atZero 32
-    (check (room_for entries widths displacements) 33 0)
-
--- what step i is refused with, 0 if with nothing, where the lent lists have these lengths
 unfoldable pub step_refusal : Recipe → ℕ → ℕ → ℕ → ℕ
 step_refusal r widths displacements i =
-    let t = step_type r i in
-    own_refusal (step_names r i) (recipe_step r i)
-    (type_refusal t
-    (cond (eqb (suc i) (step_count r)) (last_refusal (is_zero (lower_bound t)) (length t.entries) widths displacements) 0))
+    check (names r i) 27
+    (check (none_zero (recipe_step r i)) 28
+    (check (dimensions_allowed (recipe_step r i)) 29
+    (check (entry_count_allowed (step_type r i)) 30
+    (check (limits_kept (step_type r i)) 31
+    (cond (eqb (suc i) (step_count r)) (last_refusal (step_type r i) widths displacements) 0)))))
 
 -- the first step that is refused, or the number of steps; and what the recipe is refused with
 unfoldable pub first_bad : Recipe → ℕ → ℕ → ℕ
@@ -188,7 +170,7 @@ recipe_refusal r widths displacements =
 -- ---- the result: the type of the last step
 
 unfoldable pub meaning : Recipe → Typemap
-meaning r = step_type r (step_count r - 1)
+meaning r = types_before r (step_count r) (step_count r - 1)
 
 -- a list at the front of a lent one: what lies after it stays
 unfoldable pub over : {A : Type 0} → List A → List A → List A

@@ -1,5 +1,5 @@
 -- Must be believed. MPI-3.1, chapter 4: typemaps, their bounds and extent, and the five constructors of document 02's order 4. Every alignment is 1: no extent is padded.
-use Rattle.std.specs.Prelude.{ℕ, zero, suc, ◌-◌, ◌*◌, ◌/◌, ◌%◌, cond, List, [], ◌∷◌, ◌++◌, map, ltb, ℤ, pos, ◌+ℤ◌, ◌-ℤ◌, ◌*ℤ◌}
+use Rattle.std.specs.Prelude.{ℕ, zero, suc, ◌+◌, ◌-◌, ◌*◌, ◌/◌, ◌%◌, Bool, cond, List, [], ◌∷◌, ◌++◌, map, ltb, ℤ, pos, ◌+ℤ◌, ◌-ℤ◌, ◌*ℤ◌}
 use Rattle.std.specs.Int.Signed.{le_z}
 use Rattle.laws.specs.Search.{total}
 
@@ -84,13 +84,9 @@ basic w = record { entries = record { width = w; displacement = pos 0 } ∷ []; 
 unfoldable pub contiguous : ℕ → Typemap → Typemap
 contiguous count = copies count (λ k. pos k)
 
--- where copy k of blocks of equal length lies: block i begins at i times the stride, and its copies lie one after another
-unfoldable pub vector_place : ℕ → ℤ → ℕ → ℤ
-vector_place block_length stride k = pos (k / block_length) *ℤ stride +ℤ pos (k % block_length)
-
--- count blocks of so many copies
+-- count blocks of so many copies one after another; block i begins at i times the stride
 unfoldable pub vector : ℕ → ℕ → ℤ → Typemap → Typemap
-vector count block_length stride = copies (count * block_length) (vector_place block_length stride)
+vector count block_length stride = copies (count * block_length) (λ k. pos (k / block_length) *ℤ stride +ℤ pos (k % block_length))
 
 -- a block of an indexed type: how many copies, and where the first of them lies
 pub record Block : Type 0 where

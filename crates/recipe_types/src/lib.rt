@@ -1,52 +1,7 @@
-// Recipes of types (docs/recipes.md): the form of a recipe and its refusal numbers, and the numbers of a type.
+// Recipes of types: their numbers, and the numbers of a type.
 ghost use Rattle.std.specs.Prelude.{◌≡◌, ◌<◌, length};
 ghost use Rattle.laws.specs.Lists.{nth};
 ghost use Rattle.recipe_types.specs.Parts.{basic_shape, shape_at, shape_named, Nameable};
-
-use view::View;
-
-// The kinds of steps.
-pub const CONTIGUOUS: u64 = 1;
-
-pub const VECTOR: u64 = 2;
-
-pub const INDEXED: u64 = 3;
-
-pub const SUBARRAY: u64 = 4;
-
-pub const RESIZED: u64 = 5;
-
-// What a step names: a basic width, or an earlier step.
-pub const BASIC: u64 = 1;
-
-pub const STEP: u64 = 2;
-
-// The most steps; how many numbers a step has, and an item.
-pub const MAX_STEPS: usize = 32;
-
-pub const STEP_SIZE: usize = 6;
-
-pub const ITEM_SIZE: u64 = 3;
-
-// A number from here on is negative where it stands for a signed one.
-pub const HALF: u64 = 9223372036854775808;
-
-// The refusal numbers, in their order.
-pub const REFUSED_STEPS: u64 = 26;
-
-pub const REFUSED_NAME: u64 = 27;
-
-pub const REFUSED_ZERO: u64 = 28;
-
-pub const REFUSED_DIMENSIONS: u64 = 29;
-
-pub const REFUSED_ENTRIES: u64 = 30;
-
-pub const REFUSED_LIMITS: u64 = 31;
-
-pub const REFUSED_LOWER_BOUND: u64 = 32;
-
-pub const REFUSED_ROOM: u64 = 33;
 
 // The numbers of a type: how many entries, the extent, the least displacement, the greatest end of an entry, and how far the lower bound lies below the least displacement.
 #[derive(Drop)]
@@ -78,13 +33,18 @@ pub fn basic_shape(width: u64) -> Shape
     }
 }
 
-// How many numbers a step has in the table of steps, and how many places: one for each entry that a type may have.
+// How many numbers a step has in the table of steps, and how many places.
 pub const ROW: usize = 8;
 
-pub const STEP_PLACES: usize = View::MAX_FILETYPE_ENTRIES as usize;
+pub const STEP_PLACES: usize = 256;
 
 // What is added to a place, which may be negative: 2^30.
 pub const BIAS: u64 = 1073741824;
+
+// What a step names: a basic width, or an earlier step.
+pub const BASIC: u64 = 1;
+
+pub const STEP: u64 = 2;
 
 // The numbers of the type of step `i`, from the table.
 pub fn shape_at(rows: &[u64], i: usize) -> Shape

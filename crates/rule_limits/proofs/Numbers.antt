@@ -17,7 +17,7 @@ entry_end_fits w d h l = record { fits = omega (arith, width_small w h) }
 
 -- ---- signed numbers, as the machine reads them
 
-pub negative : (z : ℤ) → lt_z z (pos 0) ≡ true → (n : ℕ) × (z ≡ negsuc n)
+negative : (z : ℤ) → lt_z z (pos 0) ≡ true → (n : ℕ) × (z ≡ negsuc n)
 negative (pos n) h = absurd (omega (arith, ltb-true n 0 h))
 negative (negsuc n) h = (n, refl)
 

@@ -4,10 +4,10 @@ mod words;
 
 ghost use Rattle.std.specs.Prelude.{◌+◌, ◌*◌, ◌≤◌, length};
 
-use file::{FileRecord, Handle, SetViewAnswer};
-use recipe::{FaultyStep, STEP_SIZE};
+use file::{FileRecord, Handle};
+use recipe::FaultyStep;
 use view::Offset;
-use words::{say, tell};
+use words::{STEP_NUMBERS, say, tell};
 
 // How many places the lists have that are lent to a recipe.
 const PLACES: usize = 16;
@@ -42,7 +42,7 @@ fn print_fault(refusal: u64, fault: FaultyStep) {
     say(b"  ");
     show_words::print_number_and_rule(refusal);
     match fault {
-        FaultyStep::At(i) => tell(b": step ", i),
+        FaultyStep::Step(i) => tell(b": step ", i),
         FaultyStep::Nothing => {}
     }
     say(b"\n");
@@ -66,24 +66,15 @@ fn show(steps: &[u64], items: &[u64]) {
 }
 
 // Puts a step's six numbers at its place in a list of steps.
-fn put(steps: &mut [u64], i: usize, step: [u64; STEP_SIZE])
+fn put(steps: &mut [u64], i: usize, step: [u64; STEP_NUMBERS])
     requires { 6 * i + 6 ≤ length steps.old }
 {
     let mut j = 0;
-    while j < STEP_SIZE {
+    while j < STEP_NUMBERS {
         let x = step[j];
-        steps[STEP_SIZE * i + j] = x;
+        steps[STEP_NUMBERS * i + j] = x;
         j += 1;
     }
-}
-
-// Prints the answer of a set, and hands on its handle.
-fn told(a: SetViewAnswer) -> Handle {
-    let named = a.named;
-    show_words::print_refusal(a.refusal, named, &[], &[], &[], &[]);
-    say(b"\n");
-    let ready = a.handle;
-    ready
 }
 
 // Opens for reading and writing, sets a view from byte 0 on, and prints the answer: steps and items of the etype's recipe, and of the filetype's.
@@ -92,21 +83,13 @@ fn set(es: &[u64], ei: &[u64], fs: &[u64], fi: &[u64]) -> Handle {
     words::print_steps(b"filetype step ", fs, fi);
     let opened = Handle::open(Handle::MODE_BOTH);
     let h = opened.handle;
-    let answer = claim_recipe::set_recipes(h, b"native", 0, es, ei, fs, fi);
+    let set = claim_recipe::set_recipes(h, b"native", 0, es, ei, fs, fi);
     say(b"  set_recipes: ");
-    told(answer)
-}
-
-// The same over the basic type of a width, with steps and items of the filetype's recipe.
-fn set_over(width: u64, steps: &[u64], items: &[u64]) -> Handle {
-    tell(b"etype width ", width);
+    let named = set.named;
+    show_words::print_refusal(set.refusal, named, &[], &[], &[], &[]);
     say(b"\n");
-    words::print_steps(b"filetype step ", steps, items);
-    let opened = Handle::open(Handle::MODE_BOTH);
-    let h = opened.handle;
-    let answer = claim_recipe::set_recipe(h, b"native", 0, width, steps, items);
-    say(b"  set_recipe: ");
-    told(answer)
+    let ready = set.handle;
+    ready
 }
 
 // Prints where the first offsets of a handle's view begin.
@@ -189,7 +172,7 @@ fn negative_stride() {
     show(&steps, &block);
 }
 
-// Columns 4 to 6 of an array that has columns 0 to 5: step 1 is at fault. Step 2 is not looked at.
+// Columns 4 to 6 of an array that has columns 0 to 5: step 1 is at fault. Step 2 is not judged.
 fn outside() {
     let dimensions = [4u64, 2, 1, 6, 3, 4];
     let mut steps = [0u64; 18];
@@ -222,16 +205,18 @@ fn tile() {
 
 // Every third word. The vector ends where its last word ends, at 16; its extent is made 24, so that the next tile goes on in steps of 12.
 fn every_third() {
+    let word = [recipe::CONTIGUOUS, recipe::BASIC, 4, 1, 0, 0];
     let mut steps = [0u64; 12];
     put(&mut steps, 0, [recipe::VECTOR, recipe::BASIC, 4, 2, 1, 3]);
     put(&mut steps, 1, [recipe::RESIZED, recipe::STEP, 0, 24, 0, 0]);
-    print_places(set_over(4, &steps, &[]));
+    print_places(set(&word, &[], &steps, &[]));
 }
 
 // A word at 4 and then one at 0: a type, but no filetype.
 fn set_falling() {
+    let word = [recipe::CONTIGUOUS, recipe::BASIC, 4, 1, 0, 0];
     let falling = [recipe::INDEXED, recipe::BASIC, 4, 0, 2, 0];
-    set_over(4, &falling, &[1u64, 1, 0, 1, 0, 0]);
+    set(&word, &[], &falling, &[1u64, 1, 0, 1, 0, 0]);
 }
 
 fn main() {

@@ -2,10 +2,14 @@
 ghost use Rattle.std.specs.Prelude.{◌<◌};
 
 use libc::STDOUT_FILENO;
-use recipe::STEP_SIZE;
 
-// How many numbers an item has.
-const ITEM_SIZE: usize = recipe::ITEM_SIZE as usize;
+// How many numbers a step and an item have.
+pub const STEP_NUMBERS: usize = 6;
+
+const ITEM_NUMBERS: usize = 3;
+
+// 2^63, from which on two's complement reads a negative number.
+const HALF: u64 = 9223372036854775808;
 
 // Prints a text.
 pub fn say(text: &[u8]) {
@@ -20,7 +24,7 @@ pub fn tell(text: &[u8], n: u64) {
 
 // Prints a signed number of a recipe.
 fn print_signed(x: u64) {
-    if x < recipe::HALF {
+    if x < HALF {
         io::print_decimal(STDOUT_FILENO, x);
     } else {
         tell(b"-", std::num::wrapping_sub_u64(0, x));
@@ -34,15 +38,15 @@ fn number(l: &[u64], i: usize) -> u64 {
 
 // The items of a step: `n` of them from item `first` on, or none where the list does not have them all.
 fn items_of(items: &[u64], first: u64, n: u64) -> &[u64] {
-    let count = (items.len() / ITEM_SIZE) as u64;
+    let count = (items.len() / ITEM_NUMBERS) as u64;
     if count < n {
         return &items[0..0];
     }
     if count - n < first {
         return &items[0..0];
     }
-    let from = ITEM_SIZE * first as usize;
-    let end = from + ITEM_SIZE * n as usize;
+    let from = ITEM_NUMBERS * first as usize;
+    let end = from + ITEM_NUMBERS * n as usize;
     &items[from..end]
 }
 
@@ -50,14 +54,14 @@ fn items_of(items: &[u64], first: u64, n: u64) -> &[u64] {
 fn print_column(items: &[u64], j: usize)
     requires { j < 3 }
 {
-    let n = items.len() / ITEM_SIZE;
+    let n = items.len() / ITEM_NUMBERS;
     let mut i = 0;
     say(b", {");
     while i < n {
         if 0 < i {
             say(b", ");
         }
-        print_signed(number(items, ITEM_SIZE * i + j));
+        print_signed(number(items, ITEM_NUMBERS * i + j));
         i += 1;
     }
     say(b"}");
@@ -137,11 +141,11 @@ fn print_step(step: &[u64], items: &[u64]) {
 
 // Prints a recipe, a line for each step; each line begins with a text and the step's number.
 pub fn print_steps(text: &[u8], steps: &[u64], items: &[u64]) {
-    let n = steps.len() / STEP_SIZE;
+    let n = steps.len() / STEP_NUMBERS;
     let mut i = 0;
     while i < n {
-        let from = STEP_SIZE * i;
-        let end = from + STEP_SIZE;
+        let from = STEP_NUMBERS * i;
+        let end = from + STEP_NUMBERS;
         tell(text, i as u64);
         say(b": ");
         print_step(&steps[from..end], items);

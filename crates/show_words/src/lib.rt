@@ -14,23 +14,36 @@ fn tell(text: &[u8], n: u64) {
     io::print_decimal(STDOUT_FILENO, n);
 }
 
+// The refusal numbers of a recipe (docs/recipes.md).
+const RECIPE_STEPS: u64 = 26;
+
+const RECIPE_NAME: u64 = 27;
+
+const RECIPE_ZERO: u64 = 28;
+
+const RECIPE_DIMENSIONS: u64 = 29;
+
+const RECIPE_ENTRIES: u64 = 30;
+
+const RECIPE_LIMITS: u64 = 31;
+
+const RECIPE_LOWER_BOUND: u64 = 32;
+
+const RECIPE_ROOM: u64 = 33;
+
 // The rules of recipes, a part of the table below.
 fn print_recipe_rule(refusal: u64) {
     match refusal {
-        recipe_types::REFUSED_STEPS => say(b"the recipe has not 1 to 32 steps"),
-        recipe_types::REFUSED_NAME => say(
-            b"the step names neither an earlier step nor a basic width",
-        ),
-        recipe_types::REFUSED_ZERO => say(b"a count, block length or subsize is 0"),
-        recipe_types::REFUSED_DIMENSIONS => say(
+        RECIPE_STEPS => say(b"the recipe has not 1 to 32 steps"),
+        RECIPE_NAME => say(b"the step names neither an earlier step nor a basic width"),
+        RECIPE_ZERO => say(b"a count, block length or subsize is 0"),
+        RECIPE_DIMENSIONS => say(
             b"a subarray has not 1 to 4 dimensions, or is not inside its array",
         ),
-        recipe_types::REFUSED_ENTRIES => say(b"the step has more than 256 entries"),
-        recipe_types::REFUSED_LIMITS => say(b"an entry displacement or the extent is out of range"),
-        recipe_types::REFUSED_LOWER_BOUND => say(b"the last step's lower bound is not 0"),
-        recipe_types::REFUSED_ROOM => say(
-            b"a lent list is shorter than the last step's entry count",
-        ),
+        RECIPE_ENTRIES => say(b"the step has more than 256 entries"),
+        RECIPE_LIMITS => say(b"an entry displacement or the extent is out of range"),
+        RECIPE_LOWER_BOUND => say(b"the last step's lower bound is not 0"),
+        RECIPE_ROOM => say(b"a lent list is shorter than the last step's entry count"),
         _ => say(b"no rule has this number"),
     }
 }

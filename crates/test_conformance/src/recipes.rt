@@ -2,16 +2,23 @@
 use crate::body::{FILLS, LONGEST_LIST, length_at};
 use crate::line::{Line, RecipeLine};
 use file::{FileRecord, Handle};
+use recipe::FaultyStep;
 
 // The most numbers of a recipe's steps, and of its items.
 const LONGEST_RECIPE: usize = 1000;
 
-// How many numbers of a recipe, of a set from two recipes and of a set from one stand before their lists.
+// How many numbers of a recipe and of a set from recipes stand before their lists.
 const RECIPE_NUMBERS: usize = 5;
 
 const SET_NUMBERS: usize = 6;
 
-const SET_ONE_NUMBERS: usize = 5;
+// A line's numbers of the step at fault: 1 and its number, or 0 and 0.
+fn step_numbers(step: FaultyStep) -> [u64; 2] {
+    match step {
+        FaultyStep::Step(i) => [1, i],
+        FaultyStep::Nothing => [0, 0],
+    }
+}
 
 // A recipe with these lists, the line's numbers, and the checksums of the lent lists.
 fn flatten_into(
@@ -21,14 +28,9 @@ fn flatten_into(
     displacements: &mut [i64],
 ) -> RecipeLine {
     let step = recipe::faulty_step(steps, items, widths.len(), displacements.len());
-    let fault = step.numbers();
+    let fault = step_numbers(step);
     let a = recipe::flatten(steps, items, widths, displacements);
-    let others = [
-        a.entries,
-        view::natural(a.extent),
-        fault.named as u64,
-        fault.step,
-    ];
+    let others = [a.entries, view::natural(a.extent), fault[0], fault[1]];
     let sums = [checksum::numbers(widths), checksum::signed(displacements)];
     RecipeLine {
         refusal: a.refusal,
@@ -87,21 +89,5 @@ pub fn set_from_recipes(body: &[u8], h: Handle, rec: FileRecord) -> Line {
         &fs[0..n3],
         &fi[0..n4],
     );
-    Line::of_set(a, rec, [0u64; 4])
-}
-
-// Tag 48: the two lists of the filetype's recipe stand one after the other, and what the body has after them is the representation.
-pub fn set_from_recipe(body: &[u8], h: Handle, rec: FileRecord) -> Line {
-    let n1 = length_at(body, 3, LONGEST_RECIPE);
-    let n2 = length_at(body, 4, LONGEST_RECIPE);
-    let second = SET_ONE_NUMBERS + n1;
-    let rest = tagged_fields::bytes_after(body, second + n2);
-    let mut steps = [0u64; LONGEST_RECIPE];
-    let mut items = [0u64; LONGEST_RECIPE];
-    tagged_fields::numbers_into(body, SET_ONE_NUMBERS, n1, &mut steps);
-    tagged_fields::numbers_into(body, second, n2, &mut items);
-    let d = tagged_fields::signed_at(body, 1);
-    let width = tagged_fields::number(body, 2);
-    let a = claim_recipe::set_recipe(h, &body[rest..], d, width, &steps[0..n1], &items[0..n2]);
     Line::of_set(a, rec, [0u64; 4])
 }

@@ -1,7 +1,7 @@
 // What the driver does with a record that makes a call, one function a tag: it reads the body, makes the call and has the line's numbers (docs/conformance.md).
 use crate::body::{FILLS, LONGEST_LIST, byte_at, fill, length_at};
 use crate::line::{Line, list_sums};
-use crate::recipes::{set_from_recipe, set_from_recipes};
+use crate::recipes::set_from_recipes;
 use file::{FileRecord, GetViewAnswer, Handle};
 use view::{BytePos, Etype, Filetype, Numbers, Offset, Owner, View};
 
@@ -37,8 +37,6 @@ const REVERSE: u8 = 45;
 pub const RECIPE: u8 = 46;
 
 const SET_FROM_RECIPES: u8 = 47;
-
-const SET_FROM_RECIPE: u8 = 48;
 
 // The longest buffer.
 const LONGEST_BUFFER: usize = 4096;
@@ -290,7 +288,7 @@ pub fn known(tag: u8) -> bool {
     if tag < FILE {
         return false;
     }
-    tag <= SET_FROM_RECIPE
+    tag <= SET_FROM_RECIPES
 }
 
 // Makes the call of a record of tag 34 or above but 46, on the handle and the file that it names.
@@ -308,7 +306,6 @@ pub fn perform(tag: u8, body: &[u8], h: Handle, file: &mut [u8], rec: FileRecord
         WRITE_AT => write_at(body, h, file, rec),
         WRITE => write(body, h, file, rec),
         REVERSE => reverse(body, h, rec),
-        SET_FROM_RECIPES => set_from_recipes(body, h, rec),
-        _ => set_from_recipe(body, h, rec),
+        _ => set_from_recipes(body, h, rec),
     }
 }

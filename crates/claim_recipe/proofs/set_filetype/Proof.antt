@@ -1,6 +1,6 @@
 -- `set_filetype` sets what flattening left. Assumes nothing.
 use Rattle.laws.proofs.Prelude.{refl, needs, to_z-of_z}
-use Rattle.claim_recipe.proofs.Flattened.{widths_room, displacements_room, widths_part, displacements_part, filetype_refused, filetype_granted}
+use Rattle.claim_recipe.proofs.Flattened.{widths_room, displacements_room, widths_part, displacements_part, filetype_refused, filetype_judged}
 use Rattle.claim_recipe.proofs.set_filetype.Statement.{statement}
 use Rattle.claim_recipe.proofs.set_filetype.Tie as tie
 
@@ -39,7 +39,7 @@ returns-2 c =
     let start = c.before.before.before.before.before.before.before.before.before.before.before.before.before.before.before in
     let granted = c.before.before.before.before in
     let flattened = c.before.before.before.before.before.before.before.before in
-    filetype_granted _ _ _ _ _ _ _ _ _ _ _ _ _ _ _ _ flattened.flatten.ensures (search needs) (search needs) granted.if1.false c.set_View.ensures (to_z-of_z start.ranges.displacement) (to_z-of_z start.ranges.ex) refl
+    filetype_judged _ _ _ _ _ _ _ _ _ _ _ _ _ _ _ _ flattened.flatten.ensures (search needs) (search needs) granted.if1.false c.set_View.ensures (to_z-of_z start.ranges.displacement) (to_z-of_z start.ranges.ex) refl
 
 pub set-filetype-spec : {M : Type 1} → statement M
 set-filetype-spec =

@@ -1,6 +1,6 @@
 -- `set_recipes` lends what flattening the etype's recipe left. Assumes nothing.
 use Rattle.laws.proofs.Prelude.{refl, needs, to_z-of_z}
-use Rattle.claim_recipe.proofs.Flattened.{widths_room, displacements_room, widths_part, displacements_part, recipes_refused, recipes_granted}
+use Rattle.claim_recipe.proofs.Flattened.{widths_room, displacements_room, widths_part, displacements_part, recipes_refused, recipes_judged}
 use Rattle.claim_recipe.proofs.set_recipes.Statement.{statement}
 use Rattle.claim_recipe.proofs.set_recipes.Tie as tie
 
@@ -39,7 +39,7 @@ returns-2 c =
     let start = c.before.before.before.before.before.before.before.before.before.before.before.before.before.before.before.before in
     let granted = c.before.before.before.before in
     let flattened = c.before.before.before.before.before.before.before.before in
-    recipes_granted _ _ _ _ _ _ _ _ _ _ _ _ _ flattened.flatten.ensures (search needs) (search needs) granted.if1.false c.set-filetype.ensures (to_z-of_z start.ranges.displacement) refl
+    recipes_judged _ _ _ _ _ _ _ _ _ _ _ _ _ flattened.flatten.ensures (search needs) (search needs) granted.if1.false c.set-filetype.ensures (to_z-of_z start.ranges.displacement) refl
 
 pub set-recipes-spec : {M : Type 1} → statement M
 set-recipes-spec =

@@ -1,17 +1,17 @@
--- `flatten` checks all steps before it places the last one. Assumes nothing.
+-- `flatten` judges all steps before it places the last one. Assumes nothing.
 use Rattle.laws.proofs.Prelude.{needs}
 use Rattle.recipe.proofs.Flattening.{flatten_refused, flatten_some, flatten_last, flatten_rows, flatten_asked, flatten_extent, flatten_done}
 use Rattle.recipe.proofs.flatten.Statement.{statement}
 use Rattle.recipe.proofs.flatten.Tie as tie
 
-slice-aggregate-check-steps : tie.Need-slice-aggregate-check-steps
-slice-aggregate-check-steps c = search needs
+slice-aggregate-judge : tie.Need-slice-aggregate-judge
+slice-aggregate-judge c = search needs
 
-slice-aggregate-check-steps-2 : tie.Need-slice-aggregate-check-steps-2
-slice-aggregate-check-steps-2 c = search needs
+slice-aggregate-judge-2 : tie.Need-slice-aggregate-judge-2
+slice-aggregate-judge-2 c = search needs
 
-check-steps-requires : tie.Need-check-steps-requires
-check-steps-requires c κs = search needs
+judge-requires : tie.Need-judge-requires
+judge-requires c κs = search needs
 
 returns : tie.Need-returns
 returns c = search flatten_refused
@@ -50,9 +50,9 @@ pub flatten-spec : {M : Type 1} → statement M
 flatten-spec =
     tie.close
     (tie.spec
-    slice-aggregate-check-steps
-    slice-aggregate-check-steps-2
-    check-steps-requires
+    slice-aggregate-judge
+    slice-aggregate-judge-2
+    judge-requires
     returns
     sub-last
     slice-aggregate-place

@@ -1,6 +1,6 @@
 -- `last_refusal` tests the lower bound, then both lengths. Assumes nothing.
 use Rattle.laws.proofs.Prelude.{needs}
-use Rattle.recipe.proofs.Checking.{last_bound, last_widths, last_displacements, last_room}
+use Rattle.recipe.proofs.Judging.{last_bound, last_widths, last_displacements, last_room}
 use Rattle.recipe.proofs.last_refusal.Statement.{statement}
 use Rattle.recipe.proofs.last_refusal.Tie as tie
 

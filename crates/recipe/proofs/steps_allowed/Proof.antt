@@ -1,5 +1,6 @@
 -- `steps_allowed` tests the rest of a division, then the quotient. Assumes nothing.
-use Rattle.recipe.proofs.Checking.{steps_part, steps_none, steps_some}
+use Rattle.laws.proofs.Prelude.{needs}
+use Rattle.recipe.proofs.Judging.{steps_part, steps_none, steps_some}
 use Rattle.recipe.proofs.steps_allowed.Statement.{statement}
 use Rattle.recipe.proofs.steps_allowed.Tie as tie
 

@@ -1,9 +1,9 @@
 -- `place` puts the copies of what a step names one after another, each by a call of itself for the earlier step, which has a smaller number. Assumes nothing.
-use Rattle.laws.proofs.Prelude.{◌<◌, ℕ, ◌-◌, needs}
+use Rattle.laws.proofs.Prelude.{ℕ, ◌-◌, ◌<◌, refl, arith, length, needs}
 use borrow.Fn.Kinds.{In}
 use borrow.Fn.PlainCycle.{Measures, is, falls, and}
 use Rattle.recipe_types.proofs.shape_at.Reads as shape-at-reads
-use Rattle.recipe_place.proofs.Descending.{step_below, rows_are, basic_of, placed_basic, named_row, Descending, descend_none, descend_fits, descend_at, descend_in_widths, descend_in_displacements, descend_asked, descend_more, descend_end, descend_bytes, descend_falls}
+use Rattle.recipe_place.proofs.Descending.{step_below, rows_are, basic_of, placed_basic, named_earlier, named_row, Descending, descend_none, descend_fits, descend_at, descend_in_widths, descend_in_displacements, descend_asked, descend_more, descend_end, descend_bytes, descend_falls}
 use Rattle.recipe_place.proofs.place.Reads as place
 use Rattle.recipe_place.proofs.place.Kinds as place-kinds
 use Rattle.recipe_place.proofs.+place.Lts-place as place-lts

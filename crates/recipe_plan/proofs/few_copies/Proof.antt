@@ -1,6 +1,6 @@
 -- `few_copies` compares the copies, and then their entries, with 256. Assumes nothing.
 use Rattle.laws.proofs.Prelude.{needs}
-use Rattle.recipe_plan.proofs.Checking.{copies_many, entries_many, copies_few, entries_fits, sound_some}
+use Rattle.recipe_plan.proofs.Judging.{copies_many, entries_many, copies_few, entries_fits, sound_some}
 use Rattle.recipe_plan.proofs.few_copies.Statement.{statement}
 use Rattle.recipe_plan.proofs.few_copies.Tie as tie
 

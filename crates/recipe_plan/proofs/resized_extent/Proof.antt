@@ -1,4 +1,5 @@
 -- `resized_extent` reads a number in two's complement. Assumes nothing.
+use Rattle.laws.proofs.Prelude.{refl, needs}
 use Rattle.recipe_plan.proofs.Making.{resized_is, negative_extent}
 use Rattle.recipe_plan.proofs.resized_extent.Statement.{statement}
 use Rattle.recipe_plan.proofs.resized_extent.Tie as tie

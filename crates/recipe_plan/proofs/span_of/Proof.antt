@@ -1,5 +1,5 @@
 -- `span_of` compares each place with the least and the greatest before it. Assumes nothing.
-use Rattle.laws.proofs.Prelude.{◌-◌, ◌≤◌, arith, length, needs}
+use Rattle.laws.proofs.Prelude.{◌-◌, ◌≤◌, ◌≡◌, arith, length, needs}
 use Rattle.recipe_types.specs.Parts.{Spans}
 use Rattle.recipe_plan.proofs.Spanning.{span_one, span_more, span_end}
 use Rattle.recipe_plan.proofs.span_of.Statement.{statement}
@@ -20,23 +20,23 @@ shared-slice-read-high c = search needs
 loop-holds : tie.Need-loop-init invariant-loop decreases-loop
 loop-holds c = (search span_one, search needs, search needs)
 
-mul-smaller : tie.Need-overflow-mul-smaller invariant-loop decreases-loop
-mul-smaller c = search needs
+mul-lesser : tie.Need-overflow-mul-lesser invariant-loop decreases-loop
+mul-lesser c = search needs
 
-shared-slice-read-smaller : tie.Need-shared-slice-read-smaller invariant-loop decreases-loop
-shared-slice-read-smaller c = search needs
+shared-slice-read-lesser : tie.Need-shared-slice-read-lesser invariant-loop decreases-loop
+shared-slice-read-lesser c = search needs
 
-smaller-requires : tie.Need-smaller-requires invariant-loop decreases-loop
-smaller-requires c κs = search needs
+lesser-requires : tie.Need-lesser-requires invariant-loop decreases-loop
+lesser-requires c κs = search needs
 
-mul-larger : tie.Need-overflow-mul-larger invariant-loop decreases-loop
-mul-larger c = search needs
+mul-greater : tie.Need-overflow-mul-greater invariant-loop decreases-loop
+mul-greater c = search needs
 
-shared-slice-read-larger : tie.Need-shared-slice-read-larger invariant-loop decreases-loop
-shared-slice-read-larger c = search needs
+shared-slice-read-greater : tie.Need-shared-slice-read-greater invariant-loop decreases-loop
+shared-slice-read-greater c = search needs
 
-larger-requires : tie.Need-larger-requires invariant-loop decreases-loop
-larger-requires c κs = search needs
+greater-requires : tie.Need-greater-requires invariant-loop decreases-loop
+greater-requires c κs = search needs
 
 add-k : tie.Need-overflow-add-k invariant-loop decreases-loop
 add-k c = search needs
@@ -59,12 +59,12 @@ span-of-spec =
     shared-slice-read-low
     shared-slice-read-high
     loop-holds
-    mul-smaller
-    shared-slice-read-smaller
-    smaller-requires
-    mul-larger
-    shared-slice-read-larger
-    larger-requires
+    mul-lesser
+    shared-slice-read-lesser
+    lesser-requires
+    mul-greater
+    shared-slice-read-greater
+    greater-requires
     add-k
     loop-less
     loop-again

@@ -1,8 +1,8 @@
--- `all_some` passes the items in order and leaves at the first 0; before, where the list has fewer whole items. Assumes nothing.
+-- `all_some` passes the items in order and leaves at the first 0, at the end of the list at the latest. Assumes nothing.
 use Rattle.laws.proofs.Prelude.{◌+◌, ◌-◌, ◌<◌, Passed, passed_none, passed_more, passed_fails, passed_holds, needs}
 use Rattle.recipe_types.specs.Recipes.{some_of, item_number}
-use Rattle.recipe_steps.proofs.Reading.{too_few}
 use Rattle.recipe_steps.proofs.Zeros.{some_yes, some_no}
+use Rattle.laws.proofs.Prelude.{◌+◌, ◌-◌, ◌<◌, Passed, passed_none, passed_more, passed_fails, passed_holds, needs}
 use Rattle.recipe_steps.proofs.checks.all_some.Statement.{statement}
 use Rattle.recipe_steps.proofs.checks.all_some.Tie as tie
 
@@ -12,20 +12,17 @@ invariant-loop items first n which i₀ i = (which < 3) × Passed (λ k. some_of
 abbrev decreases-loop : tie.decreases-loop
 decreases-loop items first n which i₀ i = n - i
 
-returns : tie.Need-returns invariant-loop decreases-loop
-returns c = too_few _ _ _ _ _ c.before.whole-items.ensures (search needs)
-
 loop-holds : tie.Need-loop-init invariant-loop decreases-loop
 loop-holds c = search (needs, passed_none)
 
-returns-2 : tie.Need-returns-2 invariant-loop decreases-loop
-returns-2 c = search (passed_fails, some_no)
+returns : tie.Need-returns invariant-loop decreases-loop
+returns c = search (passed_fails, some_no)
 
 loop-again : tie.Need-loop-preserved invariant-loop decreases-loop
 loop-again c = search (needs, passed_more, some_yes)
 
-returns-3 : tie.Need-returns-3 invariant-loop decreases-loop
-returns-3 c = search passed_holds
+returns-2 : tie.Need-returns-2 invariant-loop decreases-loop
+returns-2 c = search passed_holds
 
 pub all-some-spec : {M : Type 1} → statement M
 all-some-spec =
@@ -33,12 +30,10 @@ all-some-spec =
     (tie.spec
     invariant-loop
     decreases-loop
-    (λ c κs. search needs)
-    returns
     loop-holds
     (λ c κs. search needs)
-    returns-2
+    returns
     (λ c. search needs)
     (λ c. search needs)
     loop-again
-    returns-3)
+    returns-2)

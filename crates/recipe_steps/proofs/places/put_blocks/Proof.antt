@@ -1,8 +1,7 @@
 -- `put_blocks` puts a run a block; the next one begins a stride further on. Assumes nothing.
 use Rattle.laws.proofs.Prelude.{◌-◌, ◌≤◌, length, sub_ℕ, needs}
 use Rattle.recipe_types.specs.Parts.{bias}
-use Rattle.recipe_types.specs.Typemaps.{vector_place}
-use Rattle.recipe_steps.specs.Parts.{Put}
+use Rattle.recipe_steps.specs.Parts.{vector_place, Put}
 use Rattle.recipe_steps.proofs.Placing.{Blocks, put_none, blocks_none, blocks_more, blocks_end, block_small, block_room, block_put, start_fits, start_above, at_fits}
 use Rattle.recipe_steps.proofs.places.put_blocks.Statement.{statement}
 use Rattle.recipe_steps.proofs.places.put_blocks.Tie as tie

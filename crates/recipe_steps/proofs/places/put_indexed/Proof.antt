@@ -3,7 +3,7 @@ use Rattle.laws.proofs.Prelude.{◌-◌, ◌≤◌, length, needs}
 use Rattle.recipe_types.specs.Typemaps.{block_place}
 use Rattle.recipe_steps.specs.Parts.{blocks_from, Put}
 use Rattle.recipe_steps.proofs.Placing.{put_none}
-use Rattle.recipe_steps.proofs.Indexing.{Indexed, indexed_none, indexed_next, indexed_end, indexed_fits, indexed_small, indexed_room, indexed_put, displacement_near}
+use Rattle.recipe_steps.proofs.Indexing.{Indexed, indexed_none, indexed_more, indexed_end, indexed_fits, indexed_small, indexed_room, indexed_put, displacement_near}
 use Rattle.recipe_steps.proofs.places.put_indexed.Statement.{statement}
 use Rattle.recipe_steps.proofs.places.put_indexed.Tie as tie
 
@@ -26,7 +26,7 @@ add_at : tie.Need-overflow-add-at invariant-loop decreases-loop
 add_at c = search indexed_fits
 
 loop-again : tie.Need-loop-preserved invariant-loop decreases-loop
-loop-again c = (search indexed_next, search needs, search indexed_put)
+loop-again c = (search indexed_more, search needs, search indexed_put)
 
 returns : tie.Need-returns invariant-loop decreases-loop
 returns c = search indexed_end

@@ -1,5 +1,5 @@
 -- `print_column` ends, and no sum in it wraps: the items that it passes lie within the slice. Assumes nothing but what libc's functions say.
-use Rattle.std.proofs.Common.{◌-◌, ◌≤◌, rules}
+use Rattle.std.proofs.Common.{◌-◌, ◌≤◌, length, rules}
 use Rattle.show_recipes.proofs.words.print_column.Statement.{statement}
 use Rattle.show_recipes.proofs.words.print_column.Tie as tie
 

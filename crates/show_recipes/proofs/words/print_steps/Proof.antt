@@ -1,5 +1,5 @@
 -- `print_steps` lends the six numbers of each whole step, which lie within the slice, and ends. Assumes nothing but what libc's functions say.
-use Rattle.std.proofs.Common.{◌-◌, ◌≤◌, rules}
+use Rattle.std.proofs.Common.{◌-◌, ◌≤◌, length, rules}
 use Rattle.show_recipes.proofs.words.print_steps.Statement.{statement}
 use Rattle.show_recipes.proofs.words.print_steps.Tie as tie
 

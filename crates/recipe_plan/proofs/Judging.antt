@@ -1,39 +1,59 @@
--- Checking a step: what its checks say of the type that it means, and the table with its row.
-use mathlib.Core.List.{List}
-use Rattle.laws.proofs.Prelude.{ℕ, ◌+◌, ◌*◌, ◌≤◌, ◌<◌, ◌≡◌, ◌≢◌, refl, sym, ap, ◌∙◌, Bool, true, false, not, ◌⊎◌, inl, inr, ⊎_elim, within, arith, length, nth, eqb, eqb-true, lt-leb, le-leb, ltb-true, also_inv, either_inv, check_yes, check_no, Fits, w64, mul-le-mul, lt_or_le, unflag_true, unflag_false, sub_ℕ, not-true, not-false}
+-- Judging a step: what its checks say of the type that it means, and the table with its row.
+use mathlib.Core.List.{List, [], ◌∷◌, ◌++◌, map}
+use lib.IntN.{◌+ℤ◌}
+use lib.ListN.{length-append, get_or-append}
+use lib.Seq.{get_or-append-add}
+use Rattle.laws.proofs.Prelude.{ℕ, suc, ◌+◌, ◌-◌, ◌*◌, ◌≤◌, ◌<◌, ◌≡◌, ◌≢◌, refl, sym, ap, ◌∙◌, Bool, true, false, not, true≢false, ◌⊎◌, inl, inr, ⊎_elim, within, arith, length, length-drop, nth, take, drop, eqb, leb, eqb-true, leb-true, lt-leb, le-leb, ltb-true, also_inv, either_inv, within_inv, check, check_yes, check_no, check_inv, cond_yes, cond_no, eq-eqb, ne_eqb, Fits, w64, mul-le-mul, eq-or-lt_of_le, lt_or_le, length-take-le, unflag_true, unflag_false, front, front_at, length_store, pos, ℤ, sub_ℕ, not-true, not-false}
 use Rattle.view.specs.Limits.{width_allowed}
 use Rattle.recipe_types.specs.declared.Shape.{Shape}
-use Rattle.recipe_types.specs.Typemaps.{Typemap, basic}
-use Rattle.recipe_types.specs.Recipes.{Recipe, recipe_of, step_number, recipe_step, construct, step_type, names_allowed, step_names, none_zero, dimensions_allowed, entry_count_allowed, limits_allowed, own_refusal, type_refusal}
-use Rattle.recipe_types.specs.Parts.{bias, copies_of, step_near, Capped, Known, here, shape_at, basic_shape, shape_named, Nameable, Basic}
+use Rattle.recipe_types.specs.Typemaps.{Entry, Typemap, end_of, basic}
+use Rattle.recipe_types.specs.Recipes.{Recipe, recipe_of, Step, step_number, recipe_step, construct, step_type, names, none_zero, dimensions_allowed, entry_count_allowed, limits_kept}
+use Rattle.recipe_types.specs.Parts.{bias, max_place, copies_of, place_of, step_near, Capped, Places, Known, Lowest, Highest, Above, Each, Some, more, here, later, Spans, shape_at, basic_shape, shape_named, Nameable, limits_by, shape_made, Basic}
+use Rattle.recipe_types.proofs.Integers.{pos_is, sum_is, is_once, same_is}
 use Rattle.recipe_types.proofs.Building.{type_is_basic, type_is_step, entry_count, copies_some}
-use Rattle.recipe_types.proofs.Refusing.{own_chain, own_yes, own_passed}
-use Rattle.recipe_types.proofs.Shapes.{basic_known, known_order, limits_by_law, known_made, far_limits}
+use Rattle.recipe_types.proofs.Shapes.{basic_known, limits_judged, known_made, far_limits}
 use Rattle.recipe_steps.specs.declared.StepNumbers.{StepNumbers}
-use Rattle.recipe_steps.specs.Parts.{numbers_at, step_by, Sound}
+use Rattle.recipe_steps.specs.Parts.{numbers_at, step_by, names_by, Sound, Placeable, PlacesPut}
 use Rattle.recipe_steps.proofs.Steps.{names_is, step_is}
 use Rattle.recipe_plan.specs.declared.Span.{Span}
-use Rattle.recipe_plan.specs.Parts.{StepKnown, Table, sound_refusal, inner_refusal, StepChecked, Facing, PutAsked, RowPut, StepPut, FewCopies}
+use Rattle.recipe_plan.specs.Parts.{StepKnown, Table, SpanOf, MakingReady, Made, row_numbers, sound_refusal, inner_refusal, Judged, Facing, PutAsked, RowPut, StepPut, FewCopies}
+
+-- ---- the least displacement is at most the greatest end
+
+order_at : (l : List Entry) (x y : ℕ) → Some (λ z. z ≡ pos x) (map (λ e. e.displacement) l) → Each (λ z. Above z (pos y)) (map end_of l) → x ≤ y
+unfolding end_of
+order_at (a ∷ l) x y (here e) (more h _) =
+    let d = sum_is (sum_is (same_is e (pos_is x)) (pos_is a.width)) (pos_is h.by) in
+    let q = is_once (pos_is y) (same_is h.is d) in
+    omega arith
+order_at (a ∷ l) x y (later s) (more _ e) = order_at l x y s e
+
+known_order : (t : Typemap) (s : Shape) → Known t s → s.least ≤ s.end
+known_order t s k = order_at t.entries s.least s.end k.low.some k.high.each
 
 -- ---- the step, and the type that it names
 
 -- what a step that passed checks 27 to 29 stands for
 pub record Standing (steps items : List ℕ) (i : ℕ) (s : StepNumbers) (below : Shape) : Type 0 where
   pub sound : Sound items s
-  pub names : step_names (recipe_of steps items) i ≡ true
+  pub names : names (recipe_of steps items) i ≡ true
   pub step_same : step_by items s ≡ recipe_step (recipe_of steps items) i
   pub old : Typemap
   pub known : Known old below
   pub type_same : step_type (recipe_of steps items) i ≡ construct (step_by items s) old
 
 -- the three checks
-pub sound_are : (items : List ℕ) (s : StepNumbers) (i : ℕ) → sound_refusal items s i ≡ 0 → (names_allowed s.kind s.source s.name i ≡ true) × (none_zero (step_by items s) ≡ true) × (dimensions_allowed (step_by items s) ≡ true)
+pub sound_are : (items : List ℕ) (s : StepNumbers) (i : ℕ) → sound_refusal items s i ≡ 0 → (names_by s i ≡ true) × (none_zero (step_by items s) ≡ true) × (dimensions_allowed (step_by items s) ≡ true)
 unfolding sound_refusal
-sound_are items s i e = own_passed (names_allowed s.kind s.source s.name i) (step_by items s) e
+sound_are items s i e =
+    let a = check_inv (names_by s i) 27 _ (omega arith) e in
+    let b = check_inv (none_zero (step_by items s)) 28 _ (omega arith) a.1 in
+    let c = check_inv (dimensions_allowed (step_by items s)) 29 _ (omega arith) b.1 in
+    (a.0, b.0, c.0)
 
 -- what a step names
-pub names_are : (s : StepNumbers) (i : ℕ) → names_allowed s.kind s.source s.name i ≡ true → (within 1 5 s.kind ≡ true) × (((s.source ≡ 1) × (width_allowed s.name ≡ true)) ⊎ ((s.source ≡ 2) × (s.name < i)))
-unfolding names_allowed
+pub names_are : (s : StepNumbers) (i : ℕ) → names_by s i ≡ true → (within 1 5 s.kind ≡ true) × (((s.source ≡ 1) × (width_allowed s.name ≡ true)) ⊎ ((s.source ≡ 2) × (s.name < i)))
+unfolding names_by
 names_are s i e =
     let a = also_inv (within 1 5 s.kind) _ e in
     (a.0, ⊎_elim (λ l. let b = also_inv (eqb s.source 1) _ l in inl (eqb-true s.source 1 b.0, b.1)) (λ l. let b = also_inv (eqb s.source 2) _ l in inr (eqb-true s.source 2 b.0, ltb-true s.name i b.1)) (either_inv _ _ a.1))
@@ -55,7 +75,7 @@ standing steps items rows places i s below f =
     let c = sound_are items s i (rw f.numbers f.sound) in
     let n = names_are s i c.0 in
     let same : step_by items s ≡ recipe_step r i = ap (step_by items) f.numbers ∙ step_is r i in
-    let ok : step_names r i ≡ true = sym (names_is r i s f.numbers) ∙ c.0 in
+    let ok : names r i ≡ true = sym (names_is r i) ∙ ap (λ q. names_by q i) (sym f.numbers) ∙ c.0 in
     let src : s.source ≡ step_number r i 1 = ap (λ q. q.source) f.numbers in
     let nam : s.name ≡ step_number r i 2 = ap (λ q. q.name) f.numbers in
     let snd : Sound items s = record { kind = n.0; zeros = c.1; dimensions = c.2 } in
@@ -80,47 +100,56 @@ standing steps items rows places i s below f =
 
 -- ---- the refusals
 
--- a refusal of an earlier check
-checked_refused : (r : Recipe) (i : ℕ) (rows places : List ℕ) (refusal : ℕ) → refusal ≡ inner_refusal r i → refusal ≢ 0 → StepChecked r i rows places refusal
-checked_refused r i rows places refusal e n = record { answer = e; table = λ z. absurd (n z) }
+-- a chain that stops before its end answers as a longer one does
+chain_stops : (a b c : Bool) (rest : ℕ) → check a 27 (check b 28 (check c 29 0)) ≢ 0 → check a 27 (check b 28 (check c 29 0)) ≡ check a 27 (check b 28 (check c 29 rest))
+unfolding check
+chain_stops true true true rest n = absurd (n refl)
+chain_stops true true false rest n = refl
+chain_stops true false c rest n = refl
+chain_stops false b c rest n = refl
 
-pub refused_sound : (steps items rows places : List ℕ) (i refusal : ℕ) (s : StepNumbers) → s ≡ numbers_at steps i → refusal ≡ sound_refusal items s i → refusal ≢ 0 → StepChecked (recipe_of steps items) i rows places refusal
+-- a refusal of an earlier check
+judged_refused : (r : Recipe) (i : ℕ) (rows places : List ℕ) (refusal : ℕ) → refusal ≡ inner_refusal r i → refusal ≢ 0 → Judged r i rows places refusal
+judged_refused r i rows places refusal e n = record { answer = e; table = λ z. absurd (n z) }
+
+pub refused_sound : (steps items rows places : List ℕ) (i refusal : ℕ) (s : StepNumbers) → s ≡ numbers_at steps i → refusal ≡ sound_refusal items s i → refusal ≢ 0 → Judged (recipe_of steps items) i rows places refusal
 unfolding sound_refusal inner_refusal
 refused_sound steps items rows places i refusal s e h n =
     let r = recipe_of steps items in
-    let q : refusal ≡ own_refusal (step_names r i) (recipe_step r i) 0 = h ∙ rw (names_is r i s e, ap (step_by items) e ∙ step_is r i) in
-    checked_refused r i rows places refusal (q ∙ sym ((own_chain (step_names r i) (recipe_step r i)).stops _ (λ z. n (q ∙ z)))) n
+    let a : names_by s i ≡ names r i = ap (λ q. names_by q i) e ∙ names_is r i in
+    let b : step_by items s ≡ recipe_step r i = ap (step_by items) e ∙ step_is r i in
+    let q : refusal ≡ check (names r i) 27 (check (none_zero (recipe_step r i)) 28 (check (dimensions_allowed (recipe_step r i)) 29 0)) = h ∙ rw (a, b) in
+    judged_refused r i rows places refusal (q ∙ chain_stops (names r i) (none_zero (recipe_step r i)) (dimensions_allowed (recipe_step r i)) _ (λ z. n (q ∙ z))) n
 
 -- the checks of the type
-inner_is : (steps items : List ℕ) (i : ℕ) (s : StepNumbers) (below : Shape) (g : Standing steps items i s below) → type_refusal (construct (step_by items s) g.old) 0 ≡ inner_refusal (recipe_of steps items) i
+inner_is : (steps items : List ℕ) (i : ℕ) (s : StepNumbers) (below : Shape) (g : Standing steps items i s below) → check (entry_count_allowed (construct (step_by items s) g.old)) 30 (check (limits_kept (construct (step_by items s) g.old)) 31 0) ≡ inner_refusal (recipe_of steps items) i
 unfolding inner_refusal
 inner_is steps items i s below g =
-    let r = recipe_of steps items in
-    rw (sym g.type_same) (sym ((own_chain (step_names r i) (recipe_step r i)).passes _ (own_yes (step_names r i) (recipe_step r i) g.names (rw (sym g.step_same) g.sound.zeros) (rw (sym g.step_same) g.sound.dimensions))))
+    check_yes _ 27 _ _ g.names (check_yes _ 28 _ _ (rw (sym g.step_same) g.sound.zeros) (check_yes _ 29 _ _ (rw (sym g.step_same) g.sound.dimensions) (rw g.type_same)))
 
 -- how many entries
 entries_are : (steps items : List ℕ) (i : ℕ) (s : StepNumbers) (below : Shape) (g : Standing steps items i s below) → length (construct (step_by items s) g.old).entries ≡ copies_of (step_by items s) * below.entries
 entries_are steps items i s below g = entry_count (step_by items s) g.old ∙ ap (λ m. copies_of (step_by items s) * m) g.known.counted
 
-refused_many : (steps items rows places : List ℕ) (i : ℕ) (s : StepNumbers) (below : Shape) → Facing steps items rows places i s below → (rows' places' : List ℕ) → 256 < copies_of (step_by items s) * below.entries → StepChecked (recipe_of steps items) i rows' places' 30
-unfolding type_refusal entry_count_allowed
+refused_many : (steps items rows places : List ℕ) (i : ℕ) (s : StepNumbers) (below : Shape) → Facing steps items rows places i s below → (rows' places' : List ℕ) → 256 < copies_of (step_by items s) * below.entries → Judged (recipe_of steps items) i rows' places' 30
+unfolding entry_count_allowed
 refused_many steps items rows places i s below f rows' places' h =
     let g = standing steps items rows places i s below f in
     let e = entries_are steps items i s below g in
-    checked_refused (recipe_of steps items) i rows' places' 30 (check_no _ 30 _ 30 (lt-leb (length (construct (step_by items s) g.old).entries) 256 (omega arith)) refl ∙ inner_is steps items i s below g) (λ z. omega arith)
+    judged_refused (recipe_of steps items) i rows' places' 30 (check_no _ 30 _ 30 (lt-leb (length (construct (step_by items s) g.old).entries) 256 (omega arith)) refl ∙ inner_is steps items i s below g) (λ z. omega arith)
 
 -- too many entries
-pub refused_entries : (steps items rows places : List ℕ) (i n : ℕ) (s : StepNumbers) (below : Shape) → Facing steps items rows places i s below → FewCopies (copies_of (step_by items s)) below.entries n → n ≡ 0 → StepChecked (recipe_of steps items) i rows places 30
+pub refused_entries : (steps items rows places : List ℕ) (i n : ℕ) (s : StepNumbers) (below : Shape) → Facing steps items rows places i s below → FewCopies (copies_of (step_by items s)) below.entries n → n ≡ 0 → Judged (recipe_of steps items) i rows places 30
 refused_entries steps items rows places i n s below f c z = refused_many steps items rows places i s below f rows places (c.many z)
 
 -- a limit
-refused_limit : (steps items : List ℕ) (i : ℕ) (s : StepNumbers) (below : Shape) (g : Standing steps items i s below) (rows places : List ℕ) → copies_of (step_by items s) * below.entries ≤ 256 → limits_allowed (construct (step_by items s) g.old) ≡ false → StepChecked (recipe_of steps items) i rows places 31
-unfolding type_refusal entry_count_allowed
+refused_limit : (steps items : List ℕ) (i : ℕ) (s : StepNumbers) (below : Shape) (g : Standing steps items i s below) (rows places : List ℕ) → copies_of (step_by items s) * below.entries ≤ 256 → limits_kept (construct (step_by items s) g.old) ≡ false → Judged (recipe_of steps items) i rows places 31
+unfolding entry_count_allowed
 refused_limit steps items i s below g rows places m l =
     let e = entries_are steps items i s below g in
-    checked_refused (recipe_of steps items) i rows places 31 (check_yes _ 30 _ 31 (le-leb (length (construct (step_by items s) g.old).entries) 256 (omega arith)) (check_no _ 31 _ 31 l refl) ∙ inner_is steps items i s below g) (λ z. omega arith)
+    judged_refused (recipe_of steps items) i rows places 31 (check_yes _ 30 _ 31 (le-leb (length (construct (step_by items s) g.old).entries) 256 (omega arith)) (check_no _ 31 _ 31 l refl) ∙ inner_is steps items i s below g) (λ z. omega arith)
 
-pub refused_far : (steps items rows places : List ℕ) (i n : ℕ) (s : StepNumbers) (below : Shape) (near : Bool) → Facing steps items rows places i s below → FewCopies (copies_of (step_by items s)) below.entries n → n ≢ 0 → near ≡ step_near (step_by items s) → not near ≡ true → StepChecked (recipe_of steps items) i rows places 31
+pub refused_far : (steps items rows places : List ℕ) (i n : ℕ) (s : StepNumbers) (below : Shape) (near : Bool) → Facing steps items rows places i s below → FewCopies (copies_of (step_by items s)) below.entries n → n ≢ 0 → near ≡ step_near (step_by items s) → not near ≡ true → Judged (recipe_of steps items) i rows places 31
 refused_far steps items rows places i n s below near f c z e k =
     let g = standing steps items rows places i s below f in
     let q = c.same z in
@@ -188,13 +217,13 @@ put_asked steps items rows places i n s below near f c z e k =
       places_long = f.table.places_long;
     }
 
-limits_are : (steps items rows places : List ℕ) (i n : ℕ) (s : StepNumbers) (below : Shape) (rows' places' : List ℕ) (kept : Bool) (f : Facing steps items rows places i s below) → StepPut items s i n below rows places rows' places' kept → limits_allowed (construct (step_by items s) (standing steps items rows places i s below f).old) ≡ kept
+limits_are : (steps items rows places : List ℕ) (i n : ℕ) (s : StepNumbers) (below : Shape) (rows' places' : List ℕ) (kept : Bool) (f : Facing steps items rows places i s below) → StepPut items s i n below rows places rows' places' kept → limits_kept (construct (step_by items s) (standing steps items rows places i s below f).old) ≡ kept
 limits_are steps items rows places i n s below rows' places' kept f p =
     let g = standing steps items rows places i s below f in
-    limits_by_law (step_by items s) g.old below p.part p.span.low p.span.high g.known g.sound.zeros p.put p.spans ∙ sym p.answer
+    limits_judged (step_by items s) g.old below p.part p.span.low p.span.high g.known g.sound.zeros p.put p.spans ∙ sym p.answer
 
 -- it breaks a limit
-pub step_broken : (steps items rows places : List ℕ) (i n : ℕ) (s : StepNumbers) (below : Shape) (rows' places' : List ℕ) (kept : Bool) → Facing steps items rows places i s below → FewCopies (copies_of (step_by items s)) below.entries n → n ≢ 0 → StepPut items s i n below rows places rows' places' kept → not kept ≡ true → StepChecked (recipe_of steps items) i rows' places' 31
+pub step_broken : (steps items rows places : List ℕ) (i n : ℕ) (s : StepNumbers) (below : Shape) (rows' places' : List ℕ) (kept : Bool) → Facing steps items rows places i s below → FewCopies (copies_of (step_by items s)) below.entries n → n ≢ 0 → StepPut items s i n below rows places rows' places' kept → not kept ≡ true → Judged (recipe_of steps items) i rows' places' 31
 step_broken steps items rows places i n s below rows' places' kept f c z p k =
     let g = standing steps items rows places i s below f in
     let q = c.same z in
@@ -219,8 +248,8 @@ row_stays r items s i n below part span rows places rows' places' j p l k =
     }
 
 -- it keeps the limits, and the table has it
-pub step_kept : (steps items rows places : List ℕ) (i n : ℕ) (s : StepNumbers) (below : Shape) (rows' places' : List ℕ) (kept : Bool) → Facing steps items rows places i s below → FewCopies (copies_of (step_by items s)) below.entries n → n ≢ 0 → StepPut items s i n below rows places rows' places' kept → not kept ≡ false → StepChecked (recipe_of steps items) i rows' places' 0
-unfolding entry_count_allowed numbers_at step_number type_refusal
+pub step_kept : (steps items rows places : List ℕ) (i n : ℕ) (s : StepNumbers) (below : Shape) (rows' places' : List ℕ) (kept : Bool) → Facing steps items rows places i s below → FewCopies (copies_of (step_by items s)) below.entries n → n ≢ 0 → StepPut items s i n below rows places rows' places' kept → not kept ≡ false → Judged (recipe_of steps items) i rows' places' 0
+unfolding entry_count_allowed numbers_at step_number
 step_kept steps items rows places i n s below rows' places' kept f c z p k =
     let r = recipe_of steps items in
     let g = standing steps items rows places i s below f in
@@ -256,31 +285,31 @@ module _ (steps items rows places : List ℕ) (i : ℕ) (s : StepNumbers) (below
   facing : Facing steps items rows places i s below
   facing = record { table = t; step = l; numbers = e; sound = h; below_is = b }
 
-  pub check_some : 1 ≤ below.entries
-  check_some = (standing steps items rows places i s below facing).known.some
+  pub judge_some : 1 ≤ below.entries
+  judge_some = (standing steps items rows places i s below facing).known.some
 
-  pub check_few : below.entries ≤ 256
-  check_few = (standing steps items rows places i s below facing).known.few
+  pub judge_few : below.entries ≤ 256
+  judge_few = (standing steps items rows places i s below facing).known.few
 
   module _ (n : ℕ) (c : FewCopies (copies_of (step_by items s)) below.entries n) where
-    pub check_entries : n ≡ 0 → StepChecked (recipe_of steps items) i rows places 30
-    check_entries = refused_entries steps items rows places i n s below facing c
+    pub judge_entries : n ≡ 0 → Judged (recipe_of steps items) i rows places 30
+    judge_entries = refused_entries steps items rows places i n s below facing c
 
-    pub check_near : n ≢ 0 → copies_of (step_by items s) ≤ 256
-    check_near z =
+    pub judge_near : n ≢ 0 → copies_of (step_by items s) ≤ 256
+    judge_near z =
         let q = c.same z in
         let m = rw q.0 at q.1 in
-        let one = mul-le-mul {n₁ = copies_of (step_by items s)} {m₁ = 1} {n₂ = copies_of (step_by items s)} {m₂ = below.entries} (omega arith) check_some in
+        let one = mul-le-mul {n₁ = copies_of (step_by items s)} {m₁ = 1} {n₂ = copies_of (step_by items s)} {m₂ = below.entries} (omega arith) judge_some in
         omega arith
 
-    pub check_far : (near : Bool) → n ≢ 0 → near ≡ step_near (step_by items s) → not near ≡ true → StepChecked (recipe_of steps items) i rows places 31
-    check_far near = refused_far steps items rows places i n s below near facing c
+    pub judge_far : (near : Bool) → n ≢ 0 → near ≡ step_near (step_by items s) → not near ≡ true → Judged (recipe_of steps items) i rows places 31
+    judge_far near = refused_far steps items rows places i n s below near facing c
 
-    pub check_asked : (near : Bool) → n ≢ 0 → near ≡ step_near (step_by items s) → not near ≡ false → PutAsked items s i n below rows places
-    check_asked near = put_asked steps items rows places i n s below near facing c
+    pub judge_asked : (near : Bool) → n ≢ 0 → near ≡ step_near (step_by items s) → not near ≡ false → PutAsked items s i n below rows places
+    judge_asked near = put_asked steps items rows places i n s below near facing c
 
-    pub check_broken : (rows' places' : List ℕ) (kept : Bool) → n ≢ 0 → StepPut items s i n below rows places rows' places' kept → not kept ≡ true → StepChecked (recipe_of steps items) i rows' places' 31
-    check_broken rows' places' kept = step_broken steps items rows places i n s below rows' places' kept facing c
+    pub judge_broken : (rows' places' : List ℕ) (kept : Bool) → n ≢ 0 → StepPut items s i n below rows places rows' places' kept → not kept ≡ true → Judged (recipe_of steps items) i rows' places' 31
+    judge_broken rows' places' kept = step_broken steps items rows places i n s below rows' places' kept facing c
 
-    pub check_kept : (rows' places' : List ℕ) (kept : Bool) → n ≢ 0 → StepPut items s i n below rows places rows' places' kept → not kept ≡ false → StepChecked (recipe_of steps items) i rows' places' 0
-    check_kept rows' places' kept = step_kept steps items rows places i n s below rows' places' kept facing c
+    pub judge_kept : (rows' places' : List ℕ) (kept : Bool) → n ≢ 0 → StepPut items s i n below rows places rows' places' kept → not kept ≡ false → Judged (recipe_of steps items) i rows' places' 0
+    judge_kept rows' places' kept = step_kept steps items rows places i n s below rows' places' kept facing c
