@@ -1,5 +1,5 @@
 -- Rounds made one after another: what a loop over them keeps, and that it may end at a refusal.
-use Rattle.laws.proofs.Prelude.{ℕ, zero, suc, ◌+◌, ◌≤◌, ◌<◌, ◌≡◌, refl, sym, ap, ◌∙◌, List, ⊎_elim, arith, add-one, length, ℤ, w64, SFits, to_z, of_z, to_z-of_z, needs, granted, granted_yes, granted_no, lt_or_le}
+use Rattle.laws.proofs.Prelude.{ℕ, zero, suc, ◌+◌, ◌≤◌, ◌<◌, ◌≡◌, refl, sym, ap, ◌∙◌, List, ⊎_elim, arith, add-one, length, ℤ, w64, SFits, to_z, of_z, to_z-of_z, rules, granted, granted_yes, granted_no, lt_or_le}
 use Rattle.file.specs.declared.Handle.{Handle}
 use Rattle.handle.specs.declared.FileRecord.{FileRecord}
 use Rattle.file.specs.declared.SetViewAnswer.{SetViewAnswer}
@@ -86,4 +86,4 @@ module _ (l : List ℕ) (c : ℕ) (o : ℤ) (fits : SFits w64 o) where
   pub write_held : write_after l c (to_z w64 (of_z w64 o)) ≡ write_after l c o
   write_held = ap (write_after l c) (to_z-of_z fits)
 
-pub ruleset making = (needs, made_none, made_more, read_round, write_round, made_refused, made_end, read_held, write_held)
+pub ruleset making = (rules, made_none, made_more, read_round, write_round, made_refused, made_end, read_held, write_held)

@@ -1,5 +1,7 @@
-// Reads and writes in rounds, for a host program that measures them: a handle is opened, a view set, and the same access made again and again at one explicit offset.
-// The view comes as the body of a record of a set (docs/conformance.md, tag 36; the first number is not looked at), and the answer is the refusal number of the set or of the access that ended the rounds, 0 if all were granted.
+//! Reads and writes in rounds, for a host program that measures them: a handle is opened, a view set, and the same access made again and again at one explicit offset.
+//! The view comes as the body of a record of a set (docs/conformance.md, tag 36; the first number is not looked at), and the answer is the refusal number of the set or of the access that ended the rounds, 0 if all were granted.
+#![tactic(auto)]
+
 ghost use Rattle.std.specs.Prelude.{◌≡◌};
 ghost use Rattle.bench_rounds.specs.Parts.{body_set, after_set, read_rounds, write_rounds, Left};
 
@@ -7,7 +9,7 @@ use file::{FileRecord, Handle, SetViewAnswer};
 use view::Offset;
 
 // What the set or a round leaves to the next round. It is no answer's type, so that the two loops share it.
-#[derive(Drop)]
+#[derive(Clone, Copy)]
 struct Last {
     refusal: u64,
     handle: Handle,

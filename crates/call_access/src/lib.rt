@@ -1,5 +1,7 @@
-// Reading and writing at an offset: the checks of the call in their order, and then the mover.
-// A handle comes as its numbers and its view's lists, which are lent: the etype's widths (ws) and displacements (ds) and the filetype's origins (ps). A file comes as its bytes and its record.
+//! Reading and writing at an offset: the checks of the call in their order, and then the mover.
+//! A handle comes as its numbers and its view's lists, which are lent: the etype's widths (ws) and displacements (ds) and the filetype's origins (ps). A file comes as its bytes and its record.
+#![tactic(auto)]
+
 ghost use Rattle.std.specs.Prelude.{◌≡◌};
 ghost use Rattle.handle.specs.Parts.{handle_with};
 ghost use Rattle.call_access.specs.Parts.{read_as, checked_as, write_as, ReadMade, WriteChecked, WriteMade};
@@ -8,14 +10,14 @@ use handle::{Access, FileNumbers, FileRecord, HandleNumbers};
 use view::{BytePos, PerEntry, PerInstance, View};
 
 // What a read answers: the refusal number, 0 if granted, and how many etypes it moved.
-#[derive(Drop)]
+#[derive(Clone, Copy)]
 pub struct ReadOutcome {
     pub refusal: u64,
     pub count: u64,
 }
 
 // What a write answers: the refusal number, 0 if granted, how many etypes it moved, and the file's record after it.
-#[derive(Drop)]
+#[derive(Clone, Copy)]
 pub struct WriteOutcome {
     pub refusal: u64,
     pub count: u64,
@@ -69,7 +71,7 @@ pub fn read<'a>(
 }
 
 // The checks of a write: the refusal number, and where a granted one ends.
-#[derive(Drop)]
+#[derive(Clone, Copy)]
 struct WriteChecks {
     refusal: u64,
     end: BytePos,

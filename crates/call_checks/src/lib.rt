@@ -1,5 +1,7 @@
-// Check 1, and the checks that reads and writes share. The checks of every call, in document 01's order, are listed in specs/Refusals.antt.
-// A handle comes as its numbers and its view's lists, which are lent: the etype's widths (ws) and displacements (ds) and the filetype's origins (ps). No call copies it.
+//! Check 1, and the checks that reads and writes share. The checks of every call, in document 01's order, are listed in specs/Refusals.antt.
+//! A handle comes as its numbers and its view's lists, which are lent: the etype's widths (ws) and displacements (ds) and the filetype's origins (ps). No call copies it.
+#![tactic(auto)]
+
 ghost use Rattle.std.specs.Prelude.{◌≡◌};
 ghost use Rattle.handle.specs.Handles.{handle_valid, file_valid};
 ghost use Rattle.handle.specs.Parts.{handle_with};

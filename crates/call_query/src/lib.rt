@@ -1,5 +1,7 @@
-// What a handle answers of its view and its pointer: the place query, the reverse lookup, end of file, seek, and giving the view back. Each makes its checks in their order, and then answers.
-// A handle comes as its numbers and its view's lists, which are lent: the etype's widths (ws) and displacements (ds) and the filetype's origins (ps).
+//! What a handle answers of its view and its pointer: the place query, the reverse lookup, end of file, seek, and giving the view back. Each makes its checks in their order, and then answers.
+//! A handle comes as its numbers and its view's lists, which are lent: the etype's widths (ws) and displacements (ds) and the filetype's origins (ps).
+#![tactic(auto)]
+
 ghost use Rattle.std.specs.Prelude.{◌≡◌, ◌≤◌, pos};
 ghost use Rattle.view.specs.Limits.{max_file_length, offset_count};
 ghost use Rattle.view_place.specs.Parts.{Tiled, OriginsLow};
@@ -17,28 +19,28 @@ pub const WHENCE_CURRENT: u64 = 1;
 pub const WHENCE_END: u64 = 2;
 
 // What a place query answers: the refusal number, 0 if granted, and the byte, 0 if refused.
-#[derive(Drop)]
+#[derive(Clone, Copy)]
 pub struct PlaceOutcome {
     pub refusal: u64,
     pub place: BytePos,
 }
 
 // What a reverse lookup answers: the refusal number, 0 if granted, and the pair, none if refused.
-#[derive(Drop)]
+#[derive(Clone, Copy)]
 pub struct OwnerOutcome {
     pub refusal: u64,
     pub owner: Owner,
 }
 
 // What end of file answers: the refusal number, 0 if granted, and the end, 0 if refused.
-#[derive(Drop)]
+#[derive(Clone, Copy)]
 pub struct EndOutcome {
     pub refusal: u64,
     pub end: Offset,
 }
 
 // What a seek answers: the refusal number, 0 if granted, and where the pointer goes, 0 if refused.
-#[derive(Drop)]
+#[derive(Clone, Copy)]
 pub struct SeekOutcome {
     pub refusal: u64,
     pub pointer: u64,

@@ -1,5 +1,5 @@
 -- What a signed number counts as, as the code tests and casts it.
-use Rattle.laws.proofs.Prelude.{minus_negative, ℕ, ◌+◌, ◌^◌, ◌<◌, ◌≡◌, refl, ap, ◌∙◌, true, false, true≢false, List, arith, get_or, ℤ, pos, negsuc, nat_abs, ◌-ℤ◌, T, leb, leb→le, lt_z, non_neg, mag, w64, Fits, SFits, to_z, of_z, hbits, to_z-of_z, needs, sfits_of, not_negative, natural_sign, natural_fits}
+use Rattle.laws.proofs.Prelude.{minus_negative, ℕ, ◌+◌, ◌^◌, ◌<◌, ◌≡◌, refl, ap, ◌∙◌, true, false, true≢false, List, arith, get_or, ℤ, pos, negsuc, nat_abs, ◌-ℤ◌, T, leb, leb→le, lt_z, non_neg, mag, w64, Fits, SFits, to_z, of_z, hbits, to_z-of_z, rules, sfits_of, not_negative, natural_sign, natural_fits}
 use Rattle.checksum.specs.Parts.{code}
 
 -- ---- a number x that is z, as the machine reads it from z's bits
@@ -42,7 +42,7 @@ module _ (x : ℤ) (e : lt_z x (pos 0) ≡ true) (f : SFits w64 x) where
   pub over_code : (z : ℤ) → x ≡ z → 9223372036854775808 + nat_abs (to_z w64 (of_z w64 (negsuc 0 -ℤ x))) ≡ code z
   over_code z s = rw over_is (code_neg x e ∙ ap code s)
 
-pub ruleset coding = (needs, read_fits, natural_sign, natural_fits, over_sfits, over_natural, over_cast, over_fits, over_code, code_pos)
+pub ruleset coding = (rules, read_fits, natural_sign, natural_fits, over_sfits, over_natural, over_cast, over_fits, over_code, code_pos)
 
 -- an element of a list of signed numbers, as the machine reads it
 pub code_read : (l : List ℤ) (i x : ℕ) → mag (get_or l i (pos 0)) < 2 ^ hbits w64 → x ≡ code (to_z w64 (of_z w64 (get_or l i (pos 0)))) → x ≡ code (get_or l i (pos 0))

@@ -1,5 +1,5 @@
 -- A checksum is taken number by number, and no step wraps.
-use Rattle.laws.proofs.Prelude.{ℕ, ◌+◌, ◌*◌, ◌/◌, ◌%◌, ◌≤◌, ◌<◌, ◌≡◌, refl, sym, ap, ◌∙◌, arith, mul-add-mod_self_right, add-one, needs}
+use Rattle.laws.proofs.Prelude.{ℕ, ◌+◌, ◌*◌, ◌/◌, ◌%◌, ◌≤◌, ◌<◌, ◌≡◌, refl, sym, ap, ◌∙◌, arith, mul-add-mod_self_right, add-one, rules}
 use Rattle.checksum.specs.Parts.{modulus, fed, checksum_of}
 
 -- the remainder of s serves as well as s
@@ -25,4 +25,4 @@ folded_more f i n d x r h l ex er = let q = h.is in record { reached = omega ari
 pub folded_end : (f : ℕ → ℕ) (i n d : ℕ) → Folded f i n d → n ≤ i → d ≡ checksum_of f n
 folded_end f i n d h l = h.is ∙ ap (checksum_of f) (omega (arith, h.reached))
 
-pub ruleset folding = (needs, folded_none, folded_more, folded_end)
+pub ruleset folding = (rules, folded_none, folded_more, folded_end)

@@ -1,4 +1,6 @@
-// The checksums of the conformance driver (docs/conformance.md). Nothing of MPI.
+//! The checksums of the conformance driver (docs/conformance.md). Nothing of MPI.
+#![tactic(auto)]
+
 ghost use Rattle.std.specs.Prelude.{◌≡◌};
 ghost use Rattle.checksum.specs.Parts.{fed, code, list_checksum, signed_checksum};
 

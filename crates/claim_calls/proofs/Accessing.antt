@@ -1,5 +1,5 @@
 -- From the contracts of the calls to the claims about one access, and where it begins. Rests on Granted.antt and HavingRead.antt.
-use Rattle.laws.proofs.Prelude.{◌≡◌, sym, ap, ◌∙◌, ℤ, needs}
+use Rattle.laws.proofs.Prelude.{◌≡◌, sym, ap, ◌∙◌, ℤ, rules}
 use Rattle.view.specs.declared.Offset.{Offset}
 use Rattle.file.specs.declared.Handle.{Handle}
 use Rattle.file.specs.Parts.{pointer_offset}
@@ -17,8 +17,8 @@ pub starts_explicit : (h : Handle) (b : Begin) (o : Offset) → b ≡ Explicit o
 unfolding starts_at
 starts_explicit h b o e = ap (starts_at h) (sym e)
 
-pub ruleset beginning = (needs, starts_pointer, starts_explicit)
+pub ruleset beginning = (rules, starts_pointer, starts_explicit)
 
-pub ruleset writing = (needs, written_next, written_at)
+pub ruleset writing = (rules, written_next, written_at)
 
-pub ruleset reading = (needs, read_next, read_explicit)
+pub ruleset reading = (rules, read_next, read_explicit)

@@ -1,4 +1,6 @@
-// Demand 2 and the sentences of document 01 about single calls: each function makes one call, and its contract is the paper's property of that call, for all inputs.
+//! Demand 2 and the sentences of document 01 about single calls: each function makes one call, and its contract is the paper's property of that call, for all inputs.
+#![tactic(auto)]
+
 ghost use Rattle.std.specs.Prelude.{◌≡◌, length};
 ghost use Rattle.view.specs.Types.{view_of_lists, typemaps};
 ghost use Rattle.claim_calls.specs.Accesses.{Written, HasRead};
@@ -73,14 +75,14 @@ pub fn seek(handle: Handle, bytes: &[u8], rec: FileRecord, by: i64, whence: u64)
 }
 
 // Where a data access begins: at the pointer, or at an explicit offset.
-#[derive(Drop)]
+#[derive(Clone, Copy)]
 pub enum Begin {
     Pointer,
     Explicit(Offset),
 }
 
 // A read or a write as it is asked for, but for the file's bytes and the buffer.
-#[derive(Drop)]
+#[derive(Clone, Copy)]
 pub struct DataAccess {
     pub handle: Handle,
     pub file: FileRecord,

@@ -1,4 +1,6 @@
-// The claim about recipes and the set after them, as functions that make these calls and whose contracts are the claim, for all inputs.
+//! The claim about recipes and the set after them, as functions that make these calls and whose contracts are the claim, for all inputs.
+#![tactic(auto)]
+
 ghost use Rattle.std.specs.Prelude.{◌≡◌};
 ghost use Rattle.recipe_types.specs.Recipes.{recipe_of};
 ghost use Rattle.claim_recipe.specs.FlattenThenSet.{FiletypeSet, RecipesSet, recipe_refused, width_recipe};

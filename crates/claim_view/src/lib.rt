@@ -1,10 +1,12 @@
-// Document 01's claim about a set and the giving back after it, as a function that makes both calls and whose contract is the claim, for all inputs.
+//! Document 01's claim about a set and the giving back after it, as a function that makes both calls and whose contract is the claim, for all inputs.
+#![tactic(auto)]
+
 ghost use Rattle.view.specs.Types.{view_of_lists, typemaps};
 ghost use Rattle.claim_view.specs.SetThenGet.{GotAsSet};
 
 use file::{GetViewAnswer, Handle, SetViewAnswer};
 
-#[derive(Drop)]
+#[derive(Clone, Copy)]
 pub struct SetAndGot {
     pub set: SetViewAnswer,
     pub got: GetViewAnswer,

@@ -1,4 +1,6 @@
-// Demand 3, as document 01 words it: claims about a call or two, each as a function that makes the calls and whose contract is the claim, for all inputs.
+//! Demand 3, as document 01 words it: claims about a call or two, each as a function that makes the calls and whose contract is the claim, for all inputs.
+#![tactic(auto)]
+
 ghost use Rattle.claim_write.specs.Owners.{LookedUp};
 ghost use Rattle.claim_write.specs.Writes.{TwoWrites, ReadBack};
 
@@ -13,7 +15,7 @@ pub fn look_up(handle: Handle, byte: BytePos) -> ReverseAnswer
     handle.reverse(byte)
 }
 
-#[derive(Drop)]
+#[derive(Clone, Copy)]
 pub struct TwoWritten {
     pub first: AccessAnswer,
     pub second: AccessAnswer,
@@ -38,7 +40,7 @@ pub fn two_writes(
     }
 }
 
-#[derive(Drop)]
+#[derive(Clone, Copy)]
 pub struct WrittenRead {
     pub written: AccessAnswer,
     pub read: AccessAnswer,

@@ -1,6 +1,8 @@
-// The file handle and its calls: open, setting and getting a view, byte offset, reverse lookup, end of file, seek, and reading and writing at an explicit offset or at the pointer.
-// A call takes the handle by value and hands it back with the answer; a file is a lent run of bytes with a record by value.
-// What each call answers, and what it leaves in everything lent, is defined in specs/. The calls stand in a module each for opening, views, places, the pointer, and data.
+//! The file handle and its calls: open, setting and getting a view, byte offset, reverse lookup, end of file, seek, and reading and writing at an explicit offset or at the pointer.
+//! A call takes the handle by value and hands it back with the answer; a file is a lent run of bytes with a record by value.
+//! What each call answers, and what it leaves in everything lent, is defined in specs/. The calls stand in a module each for opening, views, places, the pointer, and data.
+#![tactic(auto)]
+
 mod data_access;
 mod opening;
 mod place_query;
@@ -14,7 +16,7 @@ pub use handle::FileRecord;
 use view::{BytePos, Named, Offset, Owner, View};
 
 // A handle's constants, each group in the order in which they are declared below.
-#[derive(Drop)]
+#[derive(Clone, Copy)]
 pub struct Constants {
     pub modes: [u64; 4],
     pub limits: [u64; 2],
@@ -23,7 +25,7 @@ pub struct Constants {
 }
 
 // A file handle: the mode of the open, the individual file pointer, and the view.
-#[derive(Drop)]
+#[derive(Clone, Copy)]
 pub struct Handle {
     pub mode: u64,
     pub pointer: u64,
@@ -129,7 +131,7 @@ impl Handle {
 // The answers, one type for each call: the refusal number, 0 if granted, the count, the handle, the file record where the call has one, and what else the call answers.
 // Reads and writes, at an explicit offset or at the pointer, share a type.
 
-#[derive(Drop)]
+#[derive(Clone, Copy)]
 pub struct OpenAnswer {
     pub refusal: u64,
     pub count: u64,
@@ -137,7 +139,7 @@ pub struct OpenAnswer {
 }
 
 // A refusal may name an entry of a type.
-#[derive(Drop)]
+#[derive(Clone, Copy)]
 pub struct SetViewAnswer {
     pub refusal: u64,
     pub count: u64,
@@ -146,14 +148,14 @@ pub struct SetViewAnswer {
 }
 
 // How many entries a type has, and its extent.
-#[derive(Drop)]
+#[derive(Clone, Copy)]
 pub struct TypeShape {
     pub entries: u64,
     pub extent: u64,
 }
 
 // Of document 01's "giving back".
-#[derive(Drop)]
+#[derive(Clone, Copy)]
 pub struct GetViewAnswer {
     pub refusal: u64,
     pub count: u64,
@@ -164,7 +166,7 @@ pub struct GetViewAnswer {
 }
 
 // Of document 01's "place query".
-#[derive(Drop)]
+#[derive(Clone, Copy)]
 pub struct ByteOffsetAnswer {
     pub refusal: u64,
     pub count: u64,
@@ -173,7 +175,7 @@ pub struct ByteOffsetAnswer {
 }
 
 // Of document 01's "reverse lookup".
-#[derive(Drop)]
+#[derive(Clone, Copy)]
 pub struct ReverseAnswer {
     pub refusal: u64,
     pub count: u64,
@@ -182,7 +184,7 @@ pub struct ReverseAnswer {
 }
 
 // Of document 01's "end of file".
-#[derive(Drop)]
+#[derive(Clone, Copy)]
 pub struct EndAnswer {
     pub refusal: u64,
     pub count: u64,
@@ -191,7 +193,7 @@ pub struct EndAnswer {
     pub end: Offset,
 }
 
-#[derive(Drop)]
+#[derive(Clone, Copy)]
 pub struct SeekAnswer {
     pub refusal: u64,
     pub count: u64,
@@ -199,7 +201,7 @@ pub struct SeekAnswer {
     pub file: FileRecord,
 }
 
-#[derive(Drop)]
+#[derive(Clone, Copy)]
 pub struct AccessAnswer {
     pub refusal: u64,
     pub count: u64,

@@ -1,5 +1,5 @@
 -- Laws of the ranges: what callers get of them, and how the code tests them.
-use Rattle.laws.proofs.Prelude.{minus_negative, ℕ, suc, ◌+◌, ◌-◌, ◌*◌, ◌≤◌, ◌<◌, ◌≡◌, refl, sym, ap, ◌∙◌, Bool, true, false, not, true≢false, ⊎_elim, arith, mul-le-mul, ℤ, pos, negsuc, nat_abs, sub_ℕ, ◌+ℤ◌, ◌-ℤ◌, leb, lt_z, w64, Fits, SFits, to_z, of_z, to_z-of_z, needs, ltb-true, leb-true, le-ltb, lt-ltb, le-leb, lt-leb, not_both, lt_or_le, unflag_true}
+use Rattle.laws.proofs.Prelude.{minus_negative, ℕ, suc, ◌+◌, ◌-◌, ◌*◌, ◌≤◌, ◌<◌, ◌≡◌, refl, sym, ap, ◌∙◌, Bool, true, false, not, true≢false, ⊎_elim, arith, mul-le-mul, ℤ, pos, negsuc, nat_abs, sub_ℕ, ◌+ℤ◌, ◌-ℤ◌, leb, lt_z, w64, Fits, SFits, to_z, of_z, to_z-of_z, rules, ltb-true, leb-true, le-ltb, lt-ltb, le-leb, lt-leb, not_both, lt_or_le, unflag_true}
 use Rattle.view.specs.Limits.{offset_allowed, pointer_allowed}
 use Rattle.view.specs.Types.{whole}
 use Rattle.handle.specs.declared.Target.{Target}
@@ -76,7 +76,7 @@ module _ (z : ℤ) (c : ℕ) (f : SFits w64 z) where
     pub access_left : lt_z (to_z w64 (of_z w64 z)) (pos 0) ≡ false → n ≤ 4294967296 → leb c (4294967296 - n) ≡ access_allowed z c
     access_left h l = left_access z c n (e ∙ ap whole (to_z-of_z f)) (rw (to_z-of_z f) at h) l
 
-pub ruleset accessing = (needs, access_negative, access_high, access_left)
+pub ruleset accessing = (rules, access_negative, access_high, access_left)
 
 module _ (z : ℤ) (f : SFits w64 z) where
   pub offset_negative : lt_z (to_z w64 (of_z w64 z)) (pos 0) ≡ true → false ≡ offset_allowed z
@@ -85,7 +85,7 @@ module _ (z : ℤ) (f : SFits w64 z) where
   pub offset_last : (n : ℕ) → n ≡ whole (to_z w64 (of_z w64 z)) → lt_z (to_z w64 (of_z w64 z)) (pos 0) ≡ false → leb n 4294967295 ≡ offset_allowed z
   offset_last n e h = last_offset z n (e ∙ ap whole (to_z-of_z f)) (rw (to_z-of_z f) at h)
 
-pub ruleset standing = (needs, offset_negative, offset_last)
+pub ruleset standing = (rules, offset_negative, offset_last)
 
 -- ---- a seek's target
 
@@ -103,7 +103,7 @@ pub sum_within : (base by : ℕ) → base ≤ 4294967296 → by ≤ 4294967296 -
 unfolding target_at target_allowed pointer_allowed whole
 sum_within base by h l = rw (le-leb (base + by) 4294967296 (omega arith))
 
-pub ruleset raising = (needs, base_high, sum_high, sum_within)
+pub ruleset raising = (rules, base_high, sum_high, sum_within)
 
 pub below_zero : (base by : ℕ) → base < by → ◌≡◌ {A = Target} (record { allowed = false; pointer = 0 }) (target_at (sub_ℕ base by))
 unfolding target_at target_allowed
@@ -112,7 +112,7 @@ below_zero base by l = rw (lt-ltb base by l)
 pub lower_is : (base by : ℕ) (t : Target) → by ≤ base → t ≡ target_at (pos (base - by + 0)) → t ≡ target_at (sub_ℕ base by)
 lower_is base by t l e = rw (le-ltb base by l) (e ∙ ap (λ (n : ℕ). target_at (pos n)) (omega arith))
 
-pub ruleset lowering = (needs, below_zero, lower_is)
+pub ruleset lowering = (rules, below_zero, lower_is)
 
 -- ---- how far a negative number lies below 0
 
@@ -140,7 +140,7 @@ module _ (z : ℤ) (f : SFits w64 z) (h : lt_z z (pos 0) ≡ true) where
     pub magnitude_fits : Fits w64 (n + 1)
     magnitude_fits = record { fits = omega (arith, magnitude_is, small_magnitude z f) }
 
-pub ruleset measuring = (needs, less_one_fits, magnitude_is, magnitude_fits)
+pub ruleset measuring = (rules, less_one_fits, magnitude_is, magnitude_fits)
 
 -- ---- a seek, by the sign
 
@@ -163,7 +163,7 @@ module _ (o : ℤ) (base : ℕ) (g : SFits w64 o) (b : base ≡ whole (to_z w64 
   pub sought_above : m ≡ whole (to_z w64 (of_z w64 z)) → lt_z (to_z w64 (of_z w64 z)) (pos 0) ≡ false → t ≡ target_at (pos (base + m)) → t ≡ target_at (pos (whole o) +ℤ z)
   sought_above e h q = q ∙ seek_above base m z (e ∙ ap whole (to_z-of_z f)) (rw (to_z-of_z f) at h) ∙ from
 
-pub ruleset seeking = (needs, sought_below, sought_above)
+pub ruleset seeking = (rules, sought_below, sought_above)
 
 -- ---- products
 

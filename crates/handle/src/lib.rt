@@ -1,4 +1,6 @@
-// What calls take of a handle and of a file, and an access, as numbers; the limits that these keep by themselves, where a seek goes, and the room of four lists. No sum, product or difference wraps.
+//! What calls take of a handle and of a file, and an access, as numbers; the limits that these keep by themselves, where a seek goes, and the room of four lists. No sum, product or difference wraps.
+#![tactic(auto)]
+
 ghost use Rattle.std.specs.Prelude.{true, ◌≡◌, ◌+◌, ◌≤◌, pos, nat_abs, ◌+ℤ◌};
 ghost use Rattle.std.proofs.Math.IntN.{sub_ℕ};
 ghost use Rattle.std.specs.Int.Signed.{lt_z};
@@ -11,7 +13,7 @@ ghost use Rattle.handle.specs.Parts.{target_at, lists_long};
 use view::{Numbers, Offset, View};
 
 // The numbers of a handle: the mode of the open, the individual file pointer, and the view's. A function that needs a handle takes these by value and borrows the view's lists.
-#[derive(Drop)]
+#[derive(Clone, Copy)]
 pub struct HandleNumbers {
     pub mode: u64,
     pub pointer: u64,
@@ -19,20 +21,20 @@ pub struct HandleNumbers {
 }
 
 // What is recorded of a file beside its bytes: its size.
-#[derive(Drop)]
+#[derive(Clone, Copy)]
 pub struct FileRecord {
     pub size: u64,
 }
 
 // The numbers of a file: its length in bytes, and its record.
-#[derive(Drop)]
+#[derive(Clone, Copy)]
 pub struct FileNumbers {
     pub length: u64,
     pub record: FileRecord,
 }
 
 // An access: so many etypes from an offset on.
-#[derive(Drop)]
+#[derive(Clone, Copy)]
 pub struct Access {
     pub offset: Offset,
     pub count: u64,
@@ -76,7 +78,7 @@ impl Access {
 }
 
 // Where a seek goes: whether the pointer may stand there, and the pointer if so, else 0.
-#[derive(Drop)]
+#[derive(Clone, Copy)]
 pub struct Target {
     pub allowed: bool,
     pub pointer: u64,

@@ -1,4 +1,6 @@
-// General definitions and laws on searches, maxima, sums, stores into lists and refusal chains, and three small functions for our own crates. Nothing of MPI.
+//! General definitions and laws on searches, maxima, sums, stores into lists and refusal chains, and three small functions for our own crates. Nothing of MPI.
+#![tactic(auto)]
+
 ghost use Rattle.std.specs.Prelude.{◌≡◌, ◌-◌, max, min};
 
 // The larger of two numbers.

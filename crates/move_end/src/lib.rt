@@ -1,4 +1,6 @@
-// Where a write ends: the end of the highest byte that it maps to, which check 14 and the new size go by.
+//! Where a write ends: the end of the highest byte that it maps to, which check 14 and the new size go by.
+#![tactic(auto)]
+
 ghost use Rattle.std.specs.Prelude.{◌≡◌};
 ghost use Rattle.view.specs.Types.{paper, whole};
 ghost use Rattle.view.specs.Parts.{view_with};

@@ -1,5 +1,5 @@
 -- The data of one etype, entry by entry: no sum wraps, each entry lies inside, and the entries' runs make up the packed data.
-use Rattle.laws.proofs.Prelude.{ℕ, ◌+◌, ◌*◌, ◌^◌, ◌≤◌, ◌<◌, ◌≡◌, refl, sym, ap, ◌∙◌, true, List, arith, length, get_or, pos, w64, Fits, needs, total, nth, store, store_none, length_tabulate, tabulate_at, greatest_above, total_part, total_same, total_most, store_run}
+use Rattle.laws.proofs.Prelude.{ℕ, ◌+◌, ◌*◌, ◌^◌, ◌≤◌, ◌<◌, ◌≡◌, refl, sym, ap, ◌∙◌, true, List, arith, length, get_or, pos, w64, Fits, rules, total, nth, store, store_none, length_tabulate, tabulate_at, greatest_above, total_part, total_same, total_most, store_run}
 use Rattle.view.specs.Limits.{width_allowed}
 use Rattle.view.specs.Types.{entries, width_at, displacement_at, whole}
 use Rattle.view.specs.Places.{packed_before, data_at}
@@ -117,4 +117,4 @@ module _ (n : ℕ) (ws ds : List ℕ) where
           done = store_run place value place' value' packed (get_or ws i 0) target₀ target target' h.done e hp.each hv.each;
         }
 
-pub ruleset copying = (needs, copying_none, copying_held, copying_width, copying_scaled, file_fits, copying_small, packed_fits, copying_more, file_places, file_values, buffer_places, buffer_values, copying_end)
+pub ruleset copying = (rules, copying_none, copying_held, copying_width, copying_scaled, file_fits, copying_small, packed_fits, copying_more, file_places, file_values, buffer_places, buffer_values, copying_end)

@@ -1,4 +1,6 @@
-// Copying the data of one etype. These functions are pub for our own crates: the movers meet what is required here.
+//! Copying the data of one etype. These functions are pub for our own crates: the movers meet what is required here.
+#![tactic(auto)]
+
 ghost use Rattle.std.specs.Prelude.{◌≡◌, length};
 ghost use Rattle.laws.specs.Lists.{nth};
 ghost use Rattle.laws.specs.Parts.{store, front};

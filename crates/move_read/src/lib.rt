@@ -1,5 +1,7 @@
-// Moving the data of an access between the file and the buffer, etype by etype. What a read and a write do is said in specs/Moves.antt, and computed in specs/Parts.antt.
-// These functions are pub for our own crates: a handle's calls make checks 1, 12 and 13 first, and meet what is required here.
+//! Moving the data of an access between the file and the buffer, etype by etype. What a read and a write do is said in specs/Moves.antt, and computed in specs/Parts.antt.
+//! These functions are pub for our own crates: a handle's calls make checks 1, 12 and 13 first, and meet what is required here.
+#![tactic(auto)]
+
 ghost use Rattle.std.specs.Prelude.{length};
 ghost use Rattle.view.specs.Parts.{view_with};
 ghost use Rattle.move_read.specs.Parts.{Movable, ReadDone};

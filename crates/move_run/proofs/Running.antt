@@ -1,5 +1,5 @@
 -- Runs of bytes: of a known width, two after each other, of one byte; and a run that is being filled.
-use Rattle.laws.proofs.Prelude.{ℕ, ◌+◌, ◌-◌, ◌^◌, ◌≤◌, ◌<◌, ◌≡◌, refl, sym, ap, ◌∙◌, Bool, true, false, false≢true, List, ◌⊎◌, inl, inr, ⊎_elim, arith, add-zero, length, get_or, set, length-set, T, eqb, ltb, ltb→lt, w64, Fits, needs, eqb-true, ne_eqb, either, nth, store, store_none, store_more, store_run}
+use Rattle.laws.proofs.Prelude.{ℕ, ◌+◌, ◌-◌, ◌^◌, ◌≤◌, ◌<◌, ◌≡◌, refl, sym, ap, ◌∙◌, Bool, true, false, false≢true, List, ◌⊎◌, inl, inr, ⊎_elim, arith, add-zero, length, get_or, set, length-set, T, eqb, ltb, ltb→lt, w64, Fits, rules, eqb-true, ne_eqb, either, nth, store, store_none, store_more, store_run}
 use Rattle.view.specs.Limits.{width_allowed}
 use Rattle.view.proofs.Accepted.{width_small}
 use Rattle.move_run.specs.Parts.{onward, byte_from, Runs, always}
@@ -19,7 +19,7 @@ pub run_next : (source : List ℕ) (from to k width : ℕ) (l₀ l : List ℕ) �
 unfolding onward byte_from
 run_next source from to k width l₀ l e w = rw (← w) (store_more (onward to) (byte_from source from) k (to + k) (get_or source (from + k) 0) l₀ l e refl refl)
 
-pub ruleset running = (needs, refl, run_place, run_begin, run_next)
+pub ruleset running = (rules, refl, run_place, run_begin, run_next)
 
 -- ---- runs by their width
 

@@ -1,4 +1,6 @@
-// Runs of bytes: copying one of an entry's width, and filling one with a value. The pub functions are for our own crates, which meet what is required here.
+//! Runs of bytes: copying one of an entry's width, and filling one with a value. The pub functions are for our own crates, which meet what is required here.
+#![tactic(auto)]
+
 ghost use Rattle.std.specs.Prelude.{◌≡◌, ◌-◌, ◌≤◌, true, length};
 ghost use Rattle.laws.specs.Parts.{store};
 ghost use Rattle.view.specs.Limits.{width_allowed};

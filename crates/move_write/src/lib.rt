@@ -1,5 +1,7 @@
-// The writing mover: storing a write's data etype by etype, and filling the gap. What a write does is said in move_read/specs/Moves.antt, and computed in Parts.antt beside it.
-// These functions are pub for our own crates: a handle's calls make checks 1, 12, 13 and 14 first, and meet what is required here.
+//! The writing mover: storing a write's data etype by etype, and filling the gap. What a write does is said in move_read/specs/Moves.antt, and computed in Parts.antt beside it.
+//! These functions are pub for our own crates: a handle's calls make checks 1, 12, 13 and 14 first, and meet what is required here.
+#![tactic(auto)]
+
 ghost use Rattle.std.specs.Prelude.{◌≡◌, ◌*◌, length};
 ghost use Rattle.laws.specs.Lists.{nth};
 ghost use Rattle.laws.specs.Parts.{store};

@@ -1,4 +1,6 @@
-// Types from recipes: MPI's constructors contiguous, vector, indexed, subarray in C order, and resized with lower bound 0. docs/recipes.md has the form of a recipe and the refusal numbers.
+//! Types from recipes: MPI's constructors contiguous, vector, indexed, subarray in C order, and resized with lower bound 0. docs/recipes.md has the form of a recipe and the refusal numbers.
+#![tactic(auto)]
+
 ghost use Rattle.std.specs.Prelude.{◌≡◌, ◌<◌, ◌/◌, ◌%◌, eqb, pos, length};
 ghost use Rattle.laws.specs.Checks.{also, within};
 ghost use Rattle.recipe_types.specs.Recipes.{recipe_of};
@@ -9,7 +11,7 @@ ghost use Rattle.recipe.specs.Parts.{last_by, judged_at, AllJudged};
 pub use recipe_steps::signed;
 
 // Entry count and extent of the type that a recipe means, 0 if it is refused.
-#[derive(Drop)]
+#[derive(Clone, Copy)]
 pub struct Flattened {
     pub refusal: u64,
     pub entries: u64,
@@ -17,7 +19,7 @@ pub struct Flattened {
 }
 
 // The step that a refusal is of, counted from 0.
-#[derive(Drop)]
+#[derive(Clone, Copy)]
 pub enum FaultyStep {
     Step(u64),
     Nothing,
@@ -51,7 +53,7 @@ const MAX_STEPS: usize = 32;
 const STEP_SIZE: usize = 6;
 
 // A recipe's refusal, 0 if it is granted, and the step at fault.
-#[derive(Drop)]
+#[derive(Clone, Copy)]
 struct Judgement {
     refusal: u64,
     faulty: FaultyStep,

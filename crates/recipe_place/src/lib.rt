@@ -1,4 +1,6 @@
-// Placing the entries of a step: each copy of what it names, an earlier step or a basic width, with a shift. For our own crates.
+//! Placing the entries of a step: each copy of what it names, an earlier step or a basic width, with a shift. For our own crates.
+#![tactic(auto)]
+
 ghost use Rattle.std.specs.Prelude.{◌≡◌, ◌+◌, ◌-◌, ◌*◌, ◌≤◌, ◌<◌, pos, length};
 ghost use Rattle.recipe_place.specs.Parts.{row_of, CopyFits, copy_shift, BasicFits, basic_copies, PlaceAsked, Placed, plan_of};
 
@@ -14,7 +16,7 @@ fn displacement_at(shift: u64) -> i64
 }
 
 // What a row says of a step: how many copies, and what it names.
-#[derive(Drop)]
+#[derive(Clone, Copy)]
 struct Row {
     copies: usize,
     source: u64,

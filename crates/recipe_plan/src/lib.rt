@@ -1,4 +1,6 @@
-// The table of a recipe's steps: each step that is granted gets a row with the numbers of its type, and the places of its copies. For our own crates.
+//! The table of a recipe's steps: each step that is granted gets a row with the numbers of its type, and the places of its copies. For our own crates.
+#![tactic(auto)]
+
 ghost use Rattle.std.specs.Prelude.{◌≡◌, cond, suc, ◌+◌, ◌*◌, ◌≤◌, ◌<◌, min, max, length};
 ghost use Rattle.std.specs.Int.{w64};
 ghost use Rattle.std.proofs.Common.{to_z};
@@ -14,7 +16,7 @@ use recipe_steps::StepNumbers;
 use recipe_types::Shape;
 
 // The least and the greatest place of the copies of a step, with the bias added.
-#[derive(Drop)]
+#[derive(Clone, Copy)]
 pub struct Span {
     pub low: u64,
     pub high: u64,

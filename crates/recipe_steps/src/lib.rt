@@ -1,4 +1,6 @@
-// A recipe's steps by themselves: their numbers, checks 27 to 29, how many copies a step makes, and where they lie. For our own crates.
+//! A recipe's steps by themselves: their numbers, checks 27 to 29, how many copies a step makes, and where they lie. For our own crates.
+#![tactic(auto)]
+
 mod checks;
 mod counting;
 mod items;
@@ -17,7 +19,7 @@ use rule_limits::width_allowed;
 pub use signs::signed;
 
 // A step's six numbers, as docs/recipes.md has them.
-#[derive(Drop)]
+#[derive(Clone, Copy)]
 pub struct StepNumbers {
     pub kind: u64,
     pub source: u64,

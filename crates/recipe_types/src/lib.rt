@@ -1,10 +1,12 @@
-// Recipes of types: their numbers, and the numbers of a type.
+//! Recipes of types: their numbers, and the numbers of a type.
+#![tactic(auto)]
+
 ghost use Rattle.std.specs.Prelude.{◌≡◌, ◌<◌, length};
 ghost use Rattle.laws.specs.Lists.{nth};
 ghost use Rattle.recipe_types.specs.Parts.{basic_shape, shape_at, shape_named, Nameable};
 
 // The numbers of a type: how many entries, the extent, the least displacement, the greatest end of an entry, and how far the lower bound lies below the least displacement.
-#[derive(Drop)]
+#[derive(Clone, Copy)]
 pub struct Shape {
     pub entries: u64,
     pub extent: u64,

@@ -1,4 +1,6 @@
-// Replays a recorded trace (docs/trace.md): reads the file that its argument names, piece by piece, and prints a line for each record.
+//! Replays a recorded trace (docs/trace.md): reads the file that its argument names, piece by piece, and prints a line for each record.
+#![tactic(auto)]
+
 mod error;
 mod line;
 
@@ -18,7 +20,7 @@ const WINDOW_BYTES: usize = 131072;
 const MOST_TURNS: u64 = 140737488355327;
 
 // How far a replay is: its state; from where to where the window has bytes that are read and not replayed; whether the trace ends with them (`last`) and how many bytes of it are before them (`place`); whether the next turn reads; whether the replay is over.
-#[derive(Drop)]
+#[derive(Clone, Copy)]
 struct Progress {
     state: Replay,
     start: usize,

@@ -1,4 +1,6 @@
-// One record of a trace (docs/trace.md): from the handle, the file and the number of records so far, with a tag and a body, to the five numbers of a line and the next state.
+//! One record of a trace (docs/trace.md): from the handle, the file and the number of records so far, with a tag and a body, to the five numbers of a line and the next state.
+#![tactic(auto)]
+
 ghost use Rattle.std.specs.Prelude.{cond, ◌≡◌, List, ℕ, ◌+◌, ◌<◌, eqb, leb, length};
 ghost use Rattle.tagged_fields.specs.Numbers.{number_at};
 ghost use Rattle.replay_record.specs.Records.{record_in, open_in, set_in, seek_in, read_in, write_in, check_in, begin_in, begin_good, Bad};
@@ -10,7 +12,7 @@ use file::{FileRecord, Handle};
 use view::{BytePos, Offset};
 
 // What a replay holds beside the file's bytes: the handle, the file record, and how many records it has replayed.
-#[derive(Drop)]
+#[derive(Clone, Copy)]
 pub struct Replay {
     pub handle: Handle,
     pub file: FileRecord,
@@ -18,7 +20,7 @@ pub struct Replay {
 }
 
 // The numbers of a printed line. The answer is 0 if granted.
-#[derive(Drop)]
+#[derive(Clone, Copy)]
 pub struct Line {
     pub number: u64,
     pub answer: u64,
@@ -28,7 +30,7 @@ pub struct Line {
 }
 
 // What a record gives: whether tag and body are good, its line, and the state after it.
-#[derive(Drop)]
+#[derive(Clone, Copy)]
 pub struct Step {
     pub good: bool,
     pub line: Line,
@@ -36,7 +38,7 @@ pub struct Step {
 }
 
 // What a record answers, and the handle and the file record after it.
-#[derive(Drop)]
+#[derive(Clone, Copy)]
 struct Answer {
     good: bool,
     answer: u64,

@@ -1,5 +1,5 @@
 -- One turn, along the code's tests; and turn after turn, as the loop makes them.
-use Rattle.laws.proofs.Prelude.{ℕ, zero, suc, ◌+◌, ◌-◌, ◌*◌, ◌/◌, ◌%◌, ◌≤◌, ◌<◌, ◌≡◌, refl, sym, ap, ◌∙◌, subst, Bool, true, false, not, cond, List, ⊎_elim, arith, add-one, add-zero, length, set, length-set, take, drop, w64, Fits, needs, eqb, eq-eqb, ne_eqb, not-true, not-false, cond_yes, cond_no, nth, front, store, store_none, store_run, eq_or_ne, not_both, Passed, passed_none, passed_more, passed_stop, passed_end, lt_or_le}
+use Rattle.laws.proofs.Prelude.{ℕ, zero, suc, ◌+◌, ◌-◌, ◌*◌, ◌/◌, ◌%◌, ◌≤◌, ◌<◌, ◌≡◌, refl, sym, ap, ◌∙◌, subst, Bool, true, false, not, cond, List, ⊎_elim, arith, add-one, add-zero, length, set, length-set, take, drop, w64, Fits, rules, eqb, eq-eqb, ne_eqb, not-true, not-false, cond_yes, cond_no, nth, front, store, store_none, store_run, eq_or_ne, not_both, Passed, passed_none, passed_more, passed_stop, passed_end, lt_or_le}
 use mathlib.Core.List.{◌∷◌, []}
 use Rattle.tagged_fields.specs.declared.Field.{Field}
 use Rattle.tagged_fields.specs.declared.Field.TheVariants.{Whole, Cut, End}
@@ -234,4 +234,4 @@ module _ (last : Bool) (window : List ℕ) (p : Position) (lent : List ℕ) (roo
     within = r.within;
   }
 
-pub ruleset running = (needs, running_none, running_more, running_stop, running_end)
+pub ruleset running = (rules, running_none, running_more, running_stop, running_end)

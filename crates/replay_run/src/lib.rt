@@ -1,4 +1,6 @@
-// A trace, record after record (docs/trace.md), over windows of it: the lines' numbers go into a lent list, and the answer says where to go on.
+//! A trace, record after record (docs/trace.md), over windows of it: the lines' numbers go into a lent list, and the answer says where to go on.
+#![tactic(auto)]
+
 ghost use Rattle.std.specs.Prelude.{cond, ◌≡◌, ◌+◌, ◌≤◌, length};
 ghost use Rattle.laws.specs.Lists.{nth};
 ghost use Rattle.laws.specs.Parts.{store};
@@ -9,7 +11,7 @@ use replay_record::{Line, Replay};
 use tagged_fields::Field;
 
 // How a run over a window ends: more of the trace or more room for lines is needed; the trace ended after a whole record; or a record is cut short, of unknown tag or has a bad body.
-#[derive(Drop)]
+#[derive(Clone, Copy)]
 pub enum Ending {
     Later,
     Complete,
@@ -17,7 +19,7 @@ pub enum Ending {
 }
 
 // What a run answers: how it ended, the place in the window of the record that it did not replay, how many lines it wrote, and the state to go on with.
-#[derive(Drop)]
+#[derive(Clone, Copy)]
 pub struct RunAnswer {
     pub ending: Ending,
     pub at: usize,
@@ -26,7 +28,7 @@ pub struct RunAnswer {
 }
 
 // What one turn does: it replays a record, or the run ends.
-#[derive(Drop)]
+#[derive(Clone, Copy)]
 struct Turn {
     replayed: bool,
     ending: Ending,

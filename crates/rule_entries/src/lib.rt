@@ -1,4 +1,6 @@
-// Tests of the single rules on a type's lists. The test of a view's record and acceptance are made of these and of the tests on a filetype's origins.
+//! Tests of the single rules on a type's lists. The test of a view's record and acceptance are made of these and of the tests on a filetype's origins.
+#![tactic(auto)]
+
 ghost use Rattle.std.specs.Prelude.{◌≡◌, ◌≤◌, ◌+◌, ◌-◌, length};
 ghost use Rattle.laws.specs.Lists.{nth};
 ghost use Rattle.laws.specs.Search.{least_false, all};

@@ -1,5 +1,7 @@
-// The record of a view, made of lent lists, and the search for the first group that is not the etype's.
-// The pub functions are for `accept`, whose checks 4, 6 and 17 meet what is required here.
+//! The record of a view, made of lent lists, and the search for the first group that is not the etype's.
+//! The pub functions are for `accept`, whose checks 4, 6 and 17 meet what is required here.
+#![tactic(auto)]
+
 ghost use Rattle.std.specs.Prelude.{◌≡◌, ◌≤◌, ◌<◌, ◌/◌, ◌%◌, length};
 ghost use Rattle.laws.specs.Parts.{front};
 ghost use Rattle.laws.specs.Lists.{nth};
@@ -9,7 +11,7 @@ ghost use Rattle.rule_groups.specs.Parts.{whole_at, entry_shifted, first_group_f
 use view::{Etype, Numbers, PerEntry, View};
 
 // What the groups of a filetype break: the rule's number, 18 or 19, and the entry that it names; 0 and 0 if nothing.
-#[derive(Drop)]
+#[derive(Clone, Copy)]
 pub struct GroupFault(pub u64, pub usize);
 
 // Widths, put at the front of `out`.

@@ -1,4 +1,6 @@
-// Tests of the single rules on a filetype's origins: where its instances end, how one follows another, and the holes between them.
+//! Tests of the single rules on a filetype's origins: where its instances end, how one follows another, and the holes between them.
+#![tactic(auto)]
+
 ghost use Rattle.std.specs.Prelude.{◌≡◌, ◌+◌, ◌≤◌, ◌<◌};
 ghost use Rattle.laws.specs.Lists.{nth};
 ghost use Rattle.laws.specs.Search.{least_false, all};

@@ -1,4 +1,6 @@
-// Document 01's limits of a view, tested on single numbers: no list is read. These functions are pub for our own crates.
+//! Document 01's limits of a view, tested on single numbers: no list is read. These functions are pub for our own crates.
+#![tactic(auto)]
+
 ghost use Rattle.std.specs.Prelude.{◌≡◌};
 ghost use Rattle.view.specs.Limits.{width_allowed, extent_allowed, displacement_allowed};
 ghost use Rattle.rule_limits.specs.Parts.{entry_fits, signed_entry_fits, lengths_allowed};

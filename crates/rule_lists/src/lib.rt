@@ -1,4 +1,6 @@
-// The limits of lent lists and numbers: checks 2 to 6 of a set, each over both types, in document 01's order.
+//! The limits of lent lists and numbers: checks 2 to 6 of a set, each over both types, in document 01's order.
+#![tactic(auto)]
+
 ghost use Rattle.std.specs.Prelude.{◌≡◌, length};
 ghost use Rattle.laws.specs.Checks.{also};
 ghost use Rattle.laws.specs.Search.{least_false};

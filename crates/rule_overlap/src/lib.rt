@@ -1,5 +1,7 @@
-// The overlap rule of order 3 where tiles are not in order: whether two data bytes of a filetype clash, and the first entry that has such a byte.
-// An entry is one number here, its key: where it begins in a tile, times 16, plus its width. Keys in order are entries in the order of their bytes in a tile, so only neighbours need be compared.
+//! The overlap rule of order 3 where tiles are not in order: whether two data bytes of a filetype clash, and the first entry that has such a byte.
+//! An entry is one number here, its key: where it begins in a tile, times 16, plus its width. Keys in order are entries in the order of their bytes in a tile, so only neighbours need be compared.
+#![tactic(auto)]
+
 ghost use Rattle.std.specs.Prelude.{◌≡◌, ◌+◌, ◌*◌, ◌/◌, ◌%◌, ◌≤◌, ◌<◌, length};
 ghost use Rattle.laws.specs.Search.{least_false, all};
 ghost use Rattle.laws.specs.Lists.{nth};

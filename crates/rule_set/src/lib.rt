@@ -1,4 +1,6 @@
-// From lent lists to an accepted view, or to the refusal number that the papers give them and what it names: checks 2 to 7, 17 to 19, 9 and 10, in this order.
+//! From lent lists to an accepted view, or to the refusal number that the papers give them and what it names: checks 2 to 7, 17 to 19, 9 and 10, in this order.
+#![tactic(auto)]
+
 ghost use Rattle.std.specs.Prelude.{◌≡◌};
 ghost use Rattle.view.specs.Parts.{default_view, view_with};
 ghost use Rattle.rule_groups.specs.Parts.{Recordable, view_record};
@@ -8,7 +10,7 @@ ghost use Rattle.rule_set.specs.Parts.{AcceptedAs, Limited, tiles_fault, TilesRe
 use view::{Etype, Fault, Filetype, Named, Numbers, PerEntry, PerInstance, View};
 
 // The refusal number of a set's checks from 2 on, or 0, what it names, and the view, the default one if refused.
-#[derive(Drop)]
+#[derive(Clone, Copy)]
 pub struct Accepted {
     pub refusal: u64,
     pub named: Named,

@@ -1,5 +1,7 @@
-// The test of a view as its record stands, whatever its numbers: does it keep the limits and rules for a mode?
-// The parts are tested on the record, at a cost that grows with the etype's entries plus the instances, and no list is copied. Only where a view for writing has tiles that are not in order are its entries compared (`rule_overlap`).
+//! The test of a view as its record stands, whatever its numbers: does it keep the limits and rules for a mode?
+//! The parts are tested on the record, at a cost that grows with the etype's entries plus the instances, and no list is copied. Only where a view for writing has tiles that are not in order are its entries compared (`rule_overlap`).
+#![tactic(auto)]
+
 ghost use Rattle.std.specs.Prelude.{true, ◌≡◌};
 ghost use Rattle.view.specs.Types.{paper};
 ghost use Rattle.view.specs.Acceptance.{accepted};

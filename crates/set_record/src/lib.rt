@@ -1,4 +1,6 @@
-// The record of a set, in a trace (docs/trace.md) and for the benchmark: the view that its body describes, set through a handle.
+//! The record of a set, in a trace (docs/trace.md) and for the benchmark: the view that its body describes, set through a handle.
+#![tactic(auto)]
+
 ghost use Rattle.std.specs.Prelude.{◌≡◌, ◌≤◌, length, drop};
 ghost use Rattle.file.specs.Parts.{set_view_answer};
 ghost use Rattle.set_record.specs.Sets.{list_length, body_view, view_in, lists_end, representation_in};

@@ -1,5 +1,5 @@
 -- What the program's calls require: a view that passed the test is valid, and its first offsets are allowed.
-use Rattle.laws.proofs.Prelude.{ℕ, ◌<◌, ◌≡◌, ap, ◌∙◌, Bool, true, false, not, List, arith, ℤ, pos, needs, lt-ltb, unflag_true}
+use Rattle.laws.proofs.Prelude.{ℕ, ◌<◌, ◌≡◌, ap, ◌∙◌, Bool, true, false, not, List, arith, ℤ, pos, rules, lt-ltb, unflag_true}
 use Rattle.view.specs.declared.Numbers.{Numbers}
 use Rattle.view.specs.Limits.{offset_allowed}
 use Rattle.view.specs.Types.{paper}
@@ -23,4 +23,4 @@ pub first_allowed : (z : ℤ) (o : ℕ) → z ≡ pos o → o < 6 → offset_all
 unfolding offset_allowed
 first_allowed z o e l = ap offset_allowed e ∙ lt-ltb o 4294967296 (omega arith)
 
-pub ruleset showing = (needs, tested_tiled, tested_origins, first_allowed)
+pub ruleset showing = (rules, tested_tiled, tested_origins, first_allowed)

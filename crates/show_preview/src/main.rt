@@ -1,4 +1,6 @@
-// Shows views as a planner would look at them: the refusal of a set in words, or where the first offsets begin, and end of file.
+//! Shows views as a planner would look at them: the refusal of a set in words, or where the first offsets begin, and end of file.
+#![tactic(auto)]
+
 use libc::STDOUT_FILENO;
 use view::{Numbers, PerEntry, PerInstance, View};
 
@@ -36,7 +38,7 @@ fn show_places<'a>(
 }
 
 // What is asked of a view: the mode, where it begins in the file, and the size for end of file.
-#[derive(Drop)]
+#[derive(Clone, Copy)]
 struct Asked {
     mode: u64,
     displacement: i64,

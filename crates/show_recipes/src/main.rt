@@ -1,5 +1,7 @@
-// One small example of every constructor of a recipe, and views set from recipes, in the order of docs/manual.md, which shows these functions and what they print.
-// A word is the basic type of width 4.
+//! One small example of every constructor of a recipe, and views set from recipes, in the order of docs/manual.md, which shows these functions and what they print.
+//! A word is the basic type of width 4.
+#![tactic(auto)]
+
 mod words;
 
 ghost use Rattle.std.specs.Prelude.{◌+◌, ◌*◌, ◌≤◌, length};

@@ -1,5 +1,7 @@
-// One small example of every call, in the order of docs/manual.md, which shows these functions and what they print.
-// P1, P4 and so on are document 01's figures. A word is an entry of width 4 at 0, extent 4.
+//! One small example of every call, in the order of docs/manual.md, which shows these functions and what they print.
+//! P1, P4 and so on are document 01's figures. A word is an entry of width 4 at 0, extent 4.
+#![tactic(auto)]
+
 use file::{
     AccessAnswer, FileRecord, Handle, OpenAnswer, ReverseAnswer, SeekAnswer, SetViewAnswer,
     TypeShape,

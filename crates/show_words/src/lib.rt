@@ -1,5 +1,7 @@
-// Refusals in plain words, for people: the rule that each number stands for; of a refused set also the type, the entry and its width and displacement.
-// It prints, and answers nothing.
+//! Refusals in plain words, for people: the rule that each number stands for; of a refused set also the type, the entry and its width and displacement.
+//! It prints, and answers nothing.
+#![tactic(auto)]
+
 use libc::STDOUT_FILENO;
 use view::{Named, View};
 

@@ -1,5 +1,5 @@
 -- How the code reads numbers and headers: from the high byte down, with no wrap, and with 0 for bytes past the end.
-use Rattle.laws.proofs.Prelude.{ℕ, zero, suc, ◌+◌, ◌-◌, ◌*◌, ◌/◌, ◌^◌, ◌≤◌, ◌<◌, min, ◌≡◌, refl, sym, ap, ◌∙◌, subst, true, List, ⊎_elim, arith, pow-suc, pow-le-pow_right, length, drop, drop_of_length-le, List·getD-eq-default, ℤ, pos, negsuc, ◌-ℤ◌, mag, w64, Fits, SFits, to_z, of_z, hbits, to_z_pos, to_z-of_z, needs, sfits_of, lt-ltb, le-ltb, le-leb, lt-leb, nth, either_left, either_right, either_no, lt_or_le}
+use Rattle.laws.proofs.Prelude.{ℕ, zero, suc, ◌+◌, ◌-◌, ◌*◌, ◌/◌, ◌^◌, ◌≤◌, ◌<◌, min, ◌≡◌, refl, sym, ap, ◌∙◌, subst, true, List, ⊎_elim, arith, pow-suc, pow-le-pow_right, length, drop, drop_of_length-le, List·getD-eq-default, ℤ, pos, negsuc, ◌-ℤ◌, mag, w64, Fits, SFits, to_z, of_z, hbits, to_z_pos, to_z-of_z, rules, sfits_of, lt-ltb, le-ltb, le-leb, lt-leb, nth, either_left, either_right, either_no, lt_or_le}
 use Rattle.tagged_fields.specs.declared.Field.TheVariants.{Whole, Cut, End}
 use Rattle.tagged_fields.specs.Fields.{little, body_length, is_cut, field_at}
 use Rattle.tagged_fields.specs.Numbers.{number_at, signed_of}
@@ -67,7 +67,7 @@ down_end s at n i x d l =
     let q : n - i ≡ n = omega arith in
     d.is ∙ (ap (λ (z : ℕ). little s z (n - i)) p ∙ ap (little s at) q)
 
-pub ruleset reading = (needs, down_none, down_more, down_end, high_fits, low_fits)
+pub ruleset reading = (rules, down_none, down_more, down_end, high_fits, low_fits)
 
 -- ---- a number of a body
 
@@ -136,4 +136,4 @@ module _ (x : ℕ) (h : 9223372036854775808 ≤ x) (f : Fits w64 x) where
 pub signed_read : (z w : ℤ) → mag z < 2 ^ hbits w64 → z ≡ w → to_z w64 (of_z w64 z) ≡ w
 signed_read z w f e = to_z-of_z (sfits_of f) ∙ e
 
-pub ruleset complement = (needs, signed_pos, below_fits, signed_neg)
+pub ruleset complement = (rules, signed_pos, below_fits, signed_neg)

@@ -1,4 +1,6 @@
-// Document 01's tagged fields: what stands at a place of a run of them, and the numbers of a body.
+//! Document 01's tagged fields: what stands at a place of a run of them, and the numbers of a body.
+#![tactic(auto)]
+
 ghost use Rattle.std.specs.Prelude.{◌≡◌, ◌+◌, ◌*◌, ◌^◌, ◌≤◌, ◌<◌, min, length};
 ghost use Rattle.laws.specs.Lists.{nth};
 ghost use Rattle.laws.specs.Parts.{front};
@@ -6,7 +8,7 @@ ghost use Rattle.tagged_fields.specs.Numbers.{number_bytes, number_at, signed_of
 ghost use Rattle.tagged_fields.specs.Fields.{little, field_at};
 
 // What stands at a place: a whole field, with its tag and where its body begins and how long it is; one that is cut short; or the end of the run.
-#[derive(Drop)]
+#[derive(Clone, Copy)]
 pub enum Field {
     Whole {
         tag: u8,

@@ -3,7 +3,7 @@ use file::{FileRecord, Handle, SetViewAnswer};
 use libc::STDOUT_FILENO;
 
 // What the line of a call says: refusal, count and the other numbers of the answer, its handle and file record, and checksums of what the call was lent.
-#[derive(Drop)]
+#[derive(Clone, Copy)]
 pub struct Line {
     pub refusal: u64,
     pub count: u64,
@@ -14,7 +14,7 @@ pub struct Line {
 }
 
 // What the line of a recipe says: refusal and the other numbers of the answer, and checksums of the two lent lists.
-#[derive(Drop)]
+#[derive(Clone, Copy)]
 pub struct RecipeLine {
     pub refusal: u64,
     pub others: [u64; 4],

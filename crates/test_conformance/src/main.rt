@@ -1,4 +1,6 @@
-// The conformance driver: reads a script from standard input, makes its calls in order and prints a line a record (docs/conformance.md).
+//! The conformance driver: reads a script from standard input, makes its calls in order and prints a line a record (docs/conformance.md).
+#![tactic(auto)]
+
 mod body;
 mod line;
 mod recipes;
@@ -26,7 +28,7 @@ const LONGEST_BODY: usize = 65535;
 const LONGEST_RECORD: usize = 65538;
 
 // A record as it was read: how many bytes of its header there are, how long its body is to be, and whether the record is whole and its tag known.
-#[derive(Drop)]
+#[derive(Clone, Copy)]
 struct Found {
     header: usize,
     length: usize,
@@ -34,7 +36,7 @@ struct Found {
 }
 
 // What the driver has beside the bytes of its two files. A length above the longest counts as that.
-#[derive(Drop)]
+#[derive(Clone, Copy)]
 struct Driver {
     slots: [Handle; 4],
     records: [FileRecord; 2],

@@ -1,5 +1,7 @@
-// A file view: displacement, etype and filetype, as MPI defines it, with its limits, the refusal numbers and the default view; the modes are in mode.rt, what a refused set names in naming.rt, what an etype's lists add up to in totals.rt.
-// What a view means (document 01's rules, places, belonging and end of file) is in specs/.
+//! A file view: displacement, etype and filetype, as MPI defines it, with its limits, the refusal numbers and the default view; the modes are in mode.rt, what a refused set names in naming.rt, what an etype's lists add up to in totals.rt.
+//! What a view means (document 01's rules, places, belonging and end of file) is in specs/.
+#![tactic(auto)]
+
 mod mode;
 mod naming;
 mod totals;
@@ -10,11 +12,11 @@ ghost use Rattle.view.specs.Types.{whole};
 ghost use Rattle.view.specs.Owners.{owner_numbers};
 
 // An etype offset: a count of etypes from the beginning of the view. Offsets come in signed.
-#[derive(Drop)]
+#[derive(Clone, Copy)]
 pub struct Offset(pub i64);
 
 // A byte position in the file.
-#[derive(Drop)]
+#[derive(Clone, Copy)]
 pub struct BytePos(pub u64);
 
 // A number for each entry of an etype, and one for each instance in a filetype.
@@ -23,21 +25,21 @@ pub type PerEntry = [u64; View::MAX_ETYPE_ENTRIES as usize];
 pub type PerInstance = [u64; View::MAX_INSTANCES as usize];
 
 // The numbers of an etype: how many entries it has, and its extent.
-#[derive(Drop)]
+#[derive(Clone, Copy)]
 pub struct Etype {
     pub entries: u64,
     pub extent: u64,
 }
 
 // The numbers of a filetype: how many instances of the etype it has, and its extent.
-#[derive(Drop)]
+#[derive(Clone, Copy)]
 pub struct Filetype {
     pub instances: u64,
     pub extent: u64,
 }
 
 // The numbers of a view. A function that needs a view takes these by value and borrows the lists that it needs, so that no call copies a list.
-#[derive(Drop)]
+#[derive(Clone, Copy)]
 pub struct Numbers {
     pub displacement: u64,
     pub etype: Etype,
@@ -46,7 +48,7 @@ pub struct Numbers {
 
 // A view: its numbers, the widths and displacements of the etype's entries, and the origins of the filetype's instances.
 // Instance i is the etype shifted by origin i. Places of a list past its type's count mean nothing.
-#[derive(Drop)]
+#[derive(Clone, Copy)]
 pub struct View {
     pub numbers: Numbers,
     pub widths: PerEntry,
@@ -55,14 +57,14 @@ pub struct View {
 }
 
 // What the reverse lookup finds at a file byte: the pair of offset and index in the packed data, or none.
-#[derive(Drop)]
+#[derive(Clone, Copy)]
 pub enum Owner {
     Pair(Offset, u64),
     Nobody,
 }
 
 // The numbers of a lookup's answer: whether a pair is named, its offset and its index; both are 0 where none is.
-#[derive(Drop)]
+#[derive(Clone, Copy)]
 pub struct OwnerNumbers {
     pub named: bool,
     pub offset: Offset,
@@ -90,7 +92,7 @@ impl Owner {
 }
 
 // What a refused set names: nothing, or an entry of the etype or of the filetype, counted from 0.
-#[derive(Drop)]
+#[derive(Clone, Copy)]
 pub enum Named {
     Nothing,
     EtypeEntry(u64),
@@ -98,14 +100,14 @@ pub enum Named {
 }
 
 // The numbers of what is named: the kind of type (0 for none, 1 for the etype, 2 for the filetype) and the entry, 0 where there is none.
-#[derive(Drop)]
+#[derive(Clone, Copy)]
 pub struct NamedNumbers {
     pub kind: u64,
     pub entry: u64,
 }
 
 // What a set's checks from 2 on say of a view: the refusal number, 0 if there is none, and what it names.
-#[derive(Drop)]
+#[derive(Clone, Copy)]
 pub struct Fault {
     pub refusal: u64,
     pub named: Named,

@@ -1,5 +1,7 @@
-// The reverse lookup: the pair of offset and index in the packed data that a file byte belongs to.
-// Each entry of the filetype is tried for all tiles at once, by a remainder: the cost depends on the number of entries alone, and places need not rise with the offset.
+//! The reverse lookup: the pair of offset and index in the packed data that a file byte belongs to.
+//! Each entry of the filetype is tried for all tiles at once, by a remainder: the cost depends on the number of entries alone, and places need not rise with the offset.
+#![tactic(auto)]
+
 ghost use Rattle.std.specs.Prelude.{◌≡◌, ◌+◌, ◌<◌};
 ghost use Rattle.view.specs.Types.{paper};
 ghost use Rattle.view.specs.Acceptance.{Valid};

@@ -1,5 +1,7 @@
-// Where things lie in a view: the place of an offset, the places of the offsets after it, and end of file.
-// These functions are pub for our own crates: a handle's calls test handle, offset and file first, and meet what is required here.
+//! Where things lie in a view: the place of an offset, the places of the offsets after it, and end of file.
+//! These functions are pub for our own crates: a handle's calls test handle, offset and file first, and meet what is required here.
+#![tactic(auto)]
+
 ghost use Rattle.std.specs.Prelude.{true, ◌≡◌, ◌+◌, ◌≤◌, ◌<◌, pos};
 ghost use Rattle.laws.specs.Lists.{nth};
 ghost use Rattle.view.specs.Parts.{max_instances, end_from};
@@ -10,7 +12,7 @@ ghost use Rattle.view_place.specs.Parts.{Tiled, OriginsLow, spot_at, next_spot, 
 use view::{BytePos, Filetype, Numbers, Offset, PerInstance};
 
 // The tile and the instance of an offset: where its tile begins, and which instance of the tile it is.
-#[derive(Drop)]
+#[derive(Clone, Copy)]
 pub struct Spot {
     pub tile: BytePos,
     pub instance: u64,

@@ -1,5 +1,7 @@
-// What giving a view back writes into the lent lists: widths and displacements of both types.
-// The etype is written as one group with origin 0, the filetype as a group for each instance.
+//! What giving a view back writes into the lent lists: widths and displacements of both types.
+//! The etype is written as one group with origin 0, the filetype as a group for each instance.
+#![tactic(auto)]
+
 ghost use Rattle.std.specs.Prelude.{◌≡◌, ◌+◌, ◌*◌, ◌/◌, ◌%◌, ◌<◌, pos, length};
 ghost use Rattle.laws.specs.Parts.{front};
 ghost use Rattle.view.specs.Parts.{max_instances, view_with};

@@ -1,0 +1,10 @@
+-- `numbers_into` stores each number at its index. Assumes nothing.
+use Rattle.laws.proofs.Prelude.{◌-◌, ◌≤◌, ◌≡◌, length, front}
+use Rattle.tagged_fields.specs.Numbers.{number_from}
+use Rattle.tagged_fields.proofs.numbers_into.Given as goal
+
+abbrev pub invariant-loop-i : goal.invariant-loop-i
+invariant-loop-i l = (l.i ≤ l.n) × (length l.out ≡ length l.initial.out) × (l.out ≡ front (number_from l.body l.from) l.i l.initial.out)
+
+abbrev pub decreases-loop-i : goal.decreases-loop-i
+decreases-loop-i l = l.n - l.i
