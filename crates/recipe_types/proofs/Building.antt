@@ -66,7 +66,7 @@ map_joined h f (suc n) = map-append h (joined f n) (f n) ∙ ap (λ l. l ++ map 
 shifted_none : (x : ℤ) (l : List Entry) → map (shifted (pos 0 *ℤ x)) l ≡ l
 unfolding shifted
 shifted_none x [] = refl
-shifted_none x (e ∷ l) = rw (zero-*ℤ x, +ℤ_idr e.displacement) (ap (λ r. e ∷ r) (rw (zero-*ℤ x) at (shifted_none x l)))
+shifted_none x (e ∷ l) = rw (zero-*ℤ x, +ℤ_idr e.displacement) (ap (λ r. e ∷ r) (shifted_none x l))
 
 -- the entries that a step makes are copies of those of the type that it names; copy k is shifted by its place
 pub construct_entries : (s : Step) (t : Typemap) → (construct s t).entries ≡ joined (λ k. map (shifted (place_of s k *ℤ extent t)) t.entries) (copies_of s)

@@ -24,6 +24,7 @@ some_so Q f (later r) = later (some_so Q f r)
 pub each_some : {A : Type 0} {P Q : A → Type 0} {l : List A} → Each P l → Some Q l → (x : A) × ((P x) × (Q x))
 each_some (more {x} p r) (here q) = (x, (p, q))
 each_some (more p r) (later q) = each_some r q
+each_some {A = A} {P = P} {Q = Q} none x3 = elim x3 [ ]
 
 -- if each element has two properties, each has both
 pub each_both : {A : Type 0} {P Q : A → Type 0} {l : List A} → Each P l → Each Q l → Each (λ x. (P x) × (Q x)) l
@@ -74,6 +75,7 @@ some_map P f (later r) = later (some_map P f r)
 pub some_unmap : {A B : Type 0} (P : B → Type 0) (f : A → B) (l : List A) → Some P (map f l) → Some (λ x. P (f x)) l
 some_unmap P f (x ∷ l) (here p) = here p
 some_unmap P f (x ∷ l) (later r) = later (some_unmap P f l r)
+some_unmap {A = A} {B = B} P f [] x' = elim x' [ ]
 
 -- each element of n lists one after another
 pub each_joined : {A : Type 0} (P : A → Type 0) (f : ℕ → List A) (n : ℕ) → ((k : ℕ) → k < n → Each P (f k)) → Each P (joined f n)

@@ -2,7 +2,7 @@
 use mathlib.Core.List.{map}
 use lib.IntN.{ℤ, pos, ◌+ℤ◌, ◌*ℤ◌, +ℤ_idl, +ℤ_idr, zero-*ℤ}
 use lib.ListN.{length}
-use native.Mathlib.Nat.{zero-add, sub_zero}
+use native.Mathlib.Nat.{zero-add, sub-zero}
 use Rattle.laws.proofs.Prelude.{ℕ, ◌+◌, ◌*◌, ◌/◌, ◌%◌, ◌<◌, ◌≡◌, refl, sym, ap, ◌∙◌, arith, le-ltb, one-mul, div-eq_of_lt, mod-eq_of_lt, div-add-mod', total}
 use Rattle.recipe_types.specs.Typemaps.{Typemap, Block, Dimension, least, greatest_of, end_of, markers_else, lower_bound, upper_bound, extent, shifted, copies, bounded, basic, contiguous, vector, indexed, subarray, resized, block_place, element_place, product}
 use Rattle.recipe_types.specs.Recipes.{contiguous_step, vector_step, indexed_step, subarray_step, construct}
@@ -65,7 +65,7 @@ pub indexed_is_contiguous : (n : ℕ) (block : ℕ → Block) (t : Typemap) → 
 unfolding contiguous indexed total block_place
 indexed_is_contiguous n block t a b =
     copies_same (total (λ i. (block i).block_length) 1) n (block_place block 1) (λ k. pos k) t (zero-add (block 0).block_length ∙ a)
-    (λ k l. rw (le-ltb k 0 (omega arith), b, sub_zero k) (+ℤ_idl (pos k)))
+    (λ k l. rw (le-ltb k 0 (omega arith), b, sub-zero k) (+ℤ_idl (pos k)))
 
 -- the first n elements of an array of one dimension are the entries of a contiguous type
 pub subarray_first : (n : ℕ) (dim : ℕ → Dimension) (t : Typemap) → (dim 0).subsize ≡ n → (dim 0).start ≡ pos 0 → (subarray 1 dim t).entries ≡ (contiguous n t).entries

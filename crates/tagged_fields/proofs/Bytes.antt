@@ -134,6 +134,6 @@ module _ (x : ℕ) (h : 9223372036854775808 ≤ x) (f : Fits w64 x) where
 
 -- a signed number is w, and so is the machine's reading of its bits
 pub signed_read : (z w : ℤ) → mag z < 2 ^ hbits w64 → z ≡ w → to_z w64 (of_z w64 z) ≡ w
-signed_read z w f e = to_z-of_z (sfits_of f) ∙ e
+signed_read z w f e = to_z-of_z {w = w64} (sfits_of f) ∙ e
 
 pub ruleset complement = (rules, signed_pos, below_fits, signed_neg)

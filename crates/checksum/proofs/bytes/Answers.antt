@@ -1,6 +1,7 @@
 -- `bytes` takes the checksum number by number. Assumes nothing.
 use Rattle.laws.proofs.Prelude.{◌-◌, arith}
 use Rattle.checksum.proofs.Folding.{folding}
+use Rattle.checksum.specs.Parts.{list_checksum}
 use Rattle.checksum.proofs.bytes.Goals as goal
 
 pub loop-i-init : goal.loop-i-init
@@ -25,4 +26,5 @@ pub loop-i-preserved : goal.loop-i-preserved
 loop-i-preserved c = search folding
 
 pub returns : goal.returns
+unfolding list_checksum
 returns c = search folding

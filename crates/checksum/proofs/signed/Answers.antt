@@ -2,6 +2,7 @@
 use Rattle.laws.proofs.Prelude.{◌-◌}
 use Rattle.checksum.proofs.Folding.{folding}
 use Rattle.checksum.proofs.Coding.{code_read}
+use Rattle.checksum.specs.Parts.{signed_checksum}
 use Rattle.checksum.proofs.signed.Goals as goal
 
 pub loop-i-init : goal.loop-i-init
@@ -29,4 +30,5 @@ pub loop-i-preserved : goal.loop-i-preserved
 loop-i-preserved c = search (folding, code_read)
 
 pub returns : goal.returns
+unfolding signed_checksum
 returns c = search folding
