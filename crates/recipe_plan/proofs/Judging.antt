@@ -27,6 +27,7 @@ order_at (a ∷ l) x y (here e) (more h _) =
     let q = is_once (pos_is y) (same_is h.is d) in
     omega arith
 order_at (a ∷ l) x y (later s) (more _ e) = order_at l x y s e
+order_at [] x y x4 _ = elim x4 [ ]
 
 known_order : (t : Typemap) (s : Shape) → Known t s → s.least ≤ s.end
 known_order t s k = order_at t.entries s.least s.end k.low.some k.high.each

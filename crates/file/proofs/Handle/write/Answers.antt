@@ -1,0 +1,13 @@
+-- `write` is the write at the pointer as an offset, after which the pointer is raised by the count. Assumes nothing.
+use borrow.Author.Rules.{rules}
+use Rattle.file.proofs.Writable.{next_refused, pointer_fits, next_done}
+use Rattle.file.proofs.Handle.write.Goals as goal
+
+pub returns-then-done-ne0 : goal.returns-then-done-ne0
+returns-then-done-ne0 c = search next_refused
+
+pub overflow_add-self : goal.overflow_add-self
+overflow_add-self c = search (rules, pointer_fits)
+
+pub returns : goal.returns
+returns c = search next_done

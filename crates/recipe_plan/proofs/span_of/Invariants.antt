@@ -1,0 +1,10 @@
+-- `span_of` compares each place with the least and the greatest before it. Assumes nothing.
+use Rattle.laws.proofs.Prelude.{◌-◌, ◌≤◌, ◌≡◌, length}
+use Rattle.recipe_types.specs.Parts.{Spans}
+use Rattle.recipe_plan.proofs.span_of.Given as goal
+
+abbrev pub invariant-loop-k : goal.invariant-loop-k
+invariant-loop-k l = Spans l.places l.k l.low l.high × (l.k ≤ l.n) × (l.n ≤ length l.places)
+
+abbrev pub decreases-loop-k : goal.decreases-loop-k
+decreases-loop-k l = l.n - l.k
