@@ -1,18 +1,18 @@
 -- What flattening left is what a set is lent: the front of both lists, and the extent.
-use mathlib.Core.List.{List, [], ◌∷◌, ◌++◌}
+use mathlib.Core.List.{List, [], ◌∷◌}
 use lib.ListN.{length-append, length-map}
 use lib.Seq.{take-append_seam}
-use Rattle.laws.proofs.Prelude.{ℕ, ◌+◌, ◌≤◌, ◌≡◌, ◌≢◌, refl, sym, ap, ◌∙◌, arith, length, take, drop, length-drop, length-take-le, ℤ, pos, granted, granted_yes, to_z, of_z, to_z-of_z, w64}
+use Rattle.laws.proofs.Prelude.{ℕ, ◌≤◌, ◌≡◌, ◌≢◌, sym, ap, ◌∙◌, arith, length, take, drop, length-take-le, ℤ, pos, granted_yes, to_z, of_z, to_z-of_z, w64}
 use Rattle.view.specs.Types.{PaperType, view_of_lists}
 use Rattle.file.specs.declared.Handle.{Handle}
 use Rattle.file.specs.declared.SetViewAnswer.{SetViewAnswer}
-use Rattle.recipe_types.specs.Typemaps.{Typemap, widths, displacements, extent}
+use Rattle.recipe_types.specs.Typemaps.{widths, displacements, extent}
 use Rattle.recipe_types.specs.Recipes.{Recipe, recipe_of, recipe_refusal, meaning, over}
 use Rattle.recipe.specs.declared.Flattened.{Flattened}
 use Rattle.recipe.specs.Flattening.{flatten_answer, FlattenDone}
 use Rattle.recipe.proofs.Flattening.{granted_fits}
 use Rattle.claim_calls.specs.Calls.{ViewSet}
-use Rattle.claim_recipe.specs.FlattenThenSet.{type_meant, view_meant, width_recipe, recipe_refused, FiletypeSet, RecipesSet}
+use Rattle.claim_recipe.specs.FlattenThenSet.{type_meant, width_recipe, recipe_refused, FiletypeSet, RecipesSet}
 
 -- ---- a list put at the front of another
 

@@ -1,18 +1,17 @@
 -- Flattening a recipe: one that is granted has room, and its table, placed without a shift, is its typemap.
 use mathlib.Core.List.{List, [], ◌∷◌, map}
 use lib.IntN.{+ℤ_idr}
-use Rattle.laws.proofs.Prelude.{ℕ, suc, ◌+◌, ◌-◌, ◌*◌, ◌/◌, ◌≤◌, ◌<◌, ◌≡◌, ◌≢◌, refl, sym, ap, ◌∙◌, Bool, true, false, true≢false, ◌⊎◌, inl, inr, ⊎_elim, arith, length, nth, eqb, leb, ltb, leb-true, eqb-true, eq-eqb, ne_eqb, lt-ltb, also_inv, check, check_inv, cond, cond_yes, granted, granted_yes, granted_no, least_false, least_false_breaks, least_false_keeps, least_false_le, not_both, lt_or_le, eq_or_ne, pos, ℤ, ◌+ℤ◌, sub_ℕ, negsuc, within_inv, w64, SFits, to_z, of_z, to_z_pos}
+use Rattle.laws.proofs.Prelude.{ℕ, suc, ◌+◌, ◌-◌, ◌/◌, ◌≤◌, ◌<◌, ◌≡◌, ◌≢◌, refl, sym, ap, ◌∙◌, true, false, true≢false, ◌⊎◌, ⊎_elim, arith, length, eqb, leb, ltb, leb-true, eqb-true, eq-eqb, lt-ltb, also_inv, check_inv, cond_yes, granted_yes, granted_no, least_false_breaks, least_false_keeps, not_both, lt_or_le, eq_or_ne, pos, ℤ, ◌+ℤ◌, negsuc, within_inv, w64, SFits, to_z, of_z, to_z_pos}
 use Rattle.view.specs.Limits.{extent_allowed}
 use Rattle.recipe_types.specs.declared.Shape.{Shape}
 use Rattle.recipe_types.specs.Typemaps.{Entry, Typemap, extent, widths, displacements}
 use Rattle.recipe_types.specs.Recipes.{Recipe, recipe_of, step_type, limits_kept, last_refusal, room, step_refusal, step_count, steps_allowed, first_bad, recipe_refusal, meaning, over}
-use Rattle.recipe_types.specs.Parts.{max_place, Known, shape_at}
+use Rattle.recipe_types.specs.Parts.{Known, shape_at}
 use Rattle.recipe_types.proofs.Building.{meaning_is}
 use Rattle.recipe_types.proofs.Shapes.{known_extent}
 use Rattle.recipe_types.proofs.Integers.{sub_pos}
-use Rattle.recipe_place.specs.Parts.{plan_of, Plan, PlaceAsked, widths_of, displacements_of, Placed}
-use Rattle.recipe_plan.specs.Parts.{Table, inner_refusal}
-use Rattle.recipe.specs.declared.Flattened.{Flattened}
+use Rattle.recipe_place.specs.Parts.{plan_of, PlaceAsked, widths_of, displacements_of, Placed}
+use Rattle.recipe_plan.specs.Parts.{inner_refusal}
 use Rattle.recipe.specs.declared.Judgement.{Judgement}
 use Rattle.recipe.specs.Flattening.{flatten_answer, FlattenDone}
 use Rattle.recipe.specs.Parts.{AllJudged}

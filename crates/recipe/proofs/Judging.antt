@@ -1,14 +1,13 @@
 -- The steps judged in order: the first that is refused, and what with.
 use mathlib.Core.List.{List}
-use Rattle.laws.proofs.Prelude.{ℕ, zero, suc, ◌+◌, ◌-◌, ◌/◌, ◌%◌, ◌≤◌, ◌<◌, ◌≡◌, ◌≢◌, refl, sym, ap, ◌∙◌, Bool, true, false, not, cond, true≢false, ◌⊎◌, inl, inr, ⊎_elim, arith, length, eqb, leb, ltb, eq-eqb, ne_eqb, eqb-true, lt-ltb, le-ltb, le-leb, lt-leb, also, also_yes, also_no, also_inv, also_true, also_first, also_false, within, within_inv, within_low, within_high, check, check_yes, check_no, cond_yes, cond_no, unflag_true, unflag_false, least_false, least_false_is, lt_or_le, eq_or_ne, add-one}
+use Rattle.laws.proofs.Prelude.{ℕ, suc, ◌+◌, ◌-◌, ◌/◌, ◌%◌, ◌≤◌, ◌<◌, ◌≡◌, ◌≢◌, refl, sym, ap, ◌∙◌, Bool, true, false, not, ◌⊎◌, ⊎_elim, arith, length, eqb, leb, ltb, eq-eqb, ne_eqb, lt-ltb, le-ltb, le-leb, lt-leb, also, also_yes, also_no, also_inv, also_true, also_first, also_false, within, within_inv, within_low, check, check_yes, check_no, cond_yes, cond_no, unflag_true, unflag_false, least_false_is, lt_or_le, eq_or_ne, add-one}
 use Rattle.recipe_types.specs.declared.Shape.{Shape}
-use Rattle.recipe_types.specs.Typemaps.{Typemap, lower_bound}
-use Rattle.recipe_types.specs.Recipes.{Recipe, recipe_of, recipe_step, step_type, names, none_zero, dimensions_allowed, entry_count_allowed, limits_kept, is_zero, room, last_refusal, step_refusal, step_count, steps_allowed, first_bad, recipe_refusal}
+use Rattle.recipe_types.specs.Typemaps.{Typemap}
+use Rattle.recipe_types.specs.Recipes.{Recipe, recipe_step, step_type, names, none_zero, dimensions_allowed, entry_count_allowed, limits_kept, room, last_refusal, step_refusal, step_count, steps_allowed, first_bad, recipe_refusal}
 use Rattle.recipe_types.specs.Parts.{Known, shape_at}
 use Rattle.recipe_types.proofs.Shapes.{known_lower}
 use Rattle.recipe_plan.specs.Parts.{Table, inner_refusal, Judged}
 use Rattle.recipe.specs.declared.Judgement.{Judgement}
-use Rattle.recipe.specs.declared.FaultyStep.{FaultyStep}
 use Rattle.recipe.specs.declared.FaultyStep.TheVariants.{Step, Nothing}
 use Rattle.recipe.specs.Flattening.{faulty_step}
 use Rattle.recipe.specs.Parts.{last_by, judged_at, AllJudged}

@@ -1,18 +1,18 @@
 -- The table of a recipe's steps can be placed, and stands for the entries of the types that the steps mean.
 use mathlib.Core.List.{List, map}
 use lib.IntN.{◌*ℤ◌}
-use Rattle.laws.proofs.Prelude.{ℕ, zero, suc, ◌+◌, ◌-◌, ◌*◌, ◌≤◌, ◌<◌, ◌≡◌, ◌≢◌, refl, sym, ap, ◌∙◌, true, ◌⊎◌, inl, inr, ⊎_elim, arith, length, nth, drop, get_or-drop, eqb, eqb-true, eq-eqb, ne_eqb, either_inv, eq-or-lt_of_le, eq_or_ne, pos, sub_ℕ}
+use Rattle.laws.proofs.Prelude.{ℕ, zero, suc, ◌+◌, ◌-◌, ◌*◌, ◌≤◌, ◌<◌, ◌≡◌, ◌≢◌, refl, sym, ap, ◌∙◌, true, ◌⊎◌, ⊎_elim, arith, nth, drop, get_or-drop, eqb-true, either_inv, eq-or-lt_of_le, eq_or_ne, sub_ℕ}
 use Rattle.view.specs.Limits.{width_allowed}
 use Rattle.recipe_types.specs.declared.Shape.{Shape}
-use Rattle.recipe_types.specs.Typemaps.{Entry, Typemap, extent, basic, joined, shifted}
+use Rattle.recipe_types.specs.Typemaps.{Typemap, extent, basic, shifted}
 use Rattle.recipe_types.specs.Recipes.{Recipe, recipe_of, step_number, recipe_step, step_type, construct}
-use Rattle.recipe_types.specs.Parts.{bias, max_place, copies_of, place_of, Places, Known, shape_at, shape_below, shape_named, basic_shape}
+use Rattle.recipe_types.specs.Parts.{bias, copies_of, place_of, Places, Known, shape_at, shape_below, shape_named, basic_shape}
 use Rattle.recipe_types.proofs.Building.{construct_entries, entry_count, joined_same, type_is_basic, type_is_step}
 use Rattle.recipe_types.proofs.Shapes.{basic_known, known_extent, copy_within}
-use Rattle.recipe_steps.specs.Parts.{numbers_at, names_by}
+use Rattle.recipe_steps.specs.Parts.{numbers_at}
 use Rattle.recipe_place.specs.Parts.{plan_copies, basic_copies, row_of, plan_of, RowKept, Plan}
 use Rattle.recipe_place.proofs.Plans.{plan_basic, plan_step}
-use Rattle.recipe_plan.specs.Parts.{StepKnown, Table, Facing}
+use Rattle.recipe_plan.specs.Parts.{StepKnown, Table}
 use Rattle.recipe_plan.proofs.Judging.{Standing, standing, sound_are, names_are}
 
 -- ---- a step of the table

@@ -1,12 +1,9 @@
 -- A step that names an earlier one: what the call for each copy asks, and what both lists hold after k of them.
-use lib.ListN.{length-take}
-use native.Mathlib.Nat.{mul-le-mul_right}
 use Rattle.laws.proofs.Prelude.{ℕ, suc, ◌+◌, ◌-◌, ◌*◌, ◌≤◌, ◌<◌, ◌≡◌, ◌≢◌, refl, sym, ap, ◌∙◌, List, ◌++◌, arith, length, length-drop, nth, take, drop, ℤ, Fits, w64, eq-eqb, ne_eqb, mul-le-mul, length-take-le}
 use Rattle.recipe_types.specs.declared.Shape.{Shape}
-use Rattle.recipe_types.specs.Typemaps.{Entry, basic}
 use Rattle.recipe_types.specs.Parts.{bias, max_place, shape_at, shape_below, shape_named, basic_shape}
 use Rattle.recipe_place.specs.declared.Row.{Row}
-use Rattle.recipe_place.specs.Parts.{row_of, plan_of, plan_copies, basic_copies, copy_shift, CopyFits, BasicFits, RowKept, Plan, PlaceAsked, Placed}
+use Rattle.recipe_place.specs.Parts.{row_of, plan_of, basic_copies, copy_shift, CopyFits, BasicFits, Plan, PlaceAsked, Placed}
 use Rattle.recipe_place.proofs.Plans.{plan_basic, plan_step, plan_length}
 use Rattle.recipe_place.proofs.Placing.{Copying, placed_none, placed_part, placed_widths, placed_displacements}
 

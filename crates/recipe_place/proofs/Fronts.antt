@@ -2,7 +2,7 @@
 use mathlib.Core.List.{List, [], ◌∷◌, ◌++◌, append-nil, append_assoc}
 use lib.ListN.{length-append}
 use lib.Seq.{take-append_seam, drop-append_seam, drop-drop, take_all}
-use Rattle.laws.proofs.Prelude.{ℕ, zero, suc, ◌+◌, ◌-◌, ◌≤◌, ◌<◌, ◌≡◌, refl, sym, ap, ◌∙◌, arith, length, set, take, drop, length-drop, drop_of_length-le}
+use Rattle.laws.proofs.Prelude.{ℕ, ◌+◌, ◌-◌, ◌≤◌, ◌<◌, ◌≡◌, refl, sym, ap, ◌∙◌, arith, length, set, take, drop, length-drop, drop_of_length-le}
 use Rattle.recipe_types.specs.Recipes.{over}
 
 pub over_none : {A : Type 0} (l : List A) → l ≡ over [] l

@@ -1,13 +1,13 @@
 -- Placing the copies of a step one after another: what two lists hold after k of them.
 use mathlib.Core.List.{List, [], ◌∷◌, ◌++◌, map, map-append}
 use lib.IntN.{◌*ℤ◌, +ℤ_idl}
-use lib.ListN.{length-append, length-map}
+use lib.ListN.{length-map}
 use native.Mathlib.Numerals.{add-one}
-use Rattle.laws.proofs.Prelude.{ℕ, zero, suc, ◌+◌, ◌-◌, ◌*◌, ◌≤◌, ◌<◌, ◌≡◌, refl, sym, ap, ◌∙◌, arith, length, nth, set, take, drop, ℤ, pos, ◌+ℤ◌, sub_ℕ, Fits, w64, to_z, of_z, to_z_pos, mul-le-mul, length-set}
+use Rattle.laws.proofs.Prelude.{ℕ, ◌+◌, ◌-◌, ◌*◌, ◌≤◌, ◌<◌, ◌≡◌, refl, sym, ap, ◌∙◌, arith, length, nth, set, take, drop, ℤ, pos, ◌+ℤ◌, sub_ℕ, Fits, w64, to_z, of_z, to_z_pos, mul-le-mul, length-set}
 use Rattle.recipe_types.specs.Typemaps.{Entry, basic, joined, shifted}
 use Rattle.recipe_types.specs.Recipes.{over}
 use Rattle.recipe_types.specs.Parts.{bias, max_place}
-use Rattle.recipe_types.proofs.Integers.{sub_is, sum_is, times_is, self_is, is_equal, sub_pos, up, down}
+use Rattle.recipe_types.proofs.Integers.{sub_is, sum_is, times_is, self_is, is_equal, sub_pos}
 use Rattle.recipe_place.specs.declared.Row.{Row}
 use Rattle.recipe_place.specs.Parts.{plan_copies, basic_copies, copy_shift, CopyFits, BasicFits, widths_of, displacements_of, Placed}
 use Rattle.recipe_place.proofs.Fronts.{over_none, over_length, over_set, over_part}

@@ -1,11 +1,10 @@
 -- The entries that a table stands for: those of a step are copies of those of what it names, as many as its row says.
-use mathlib.Core.List.{List, [], ◌∷◌, ◌++◌, map, map-append}
-use lib.ListN.{length-append, length-map}
-use Rattle.laws.proofs.Prelude.{ℕ, zero, suc, ◌+◌, ◌-◌, ◌*◌, ◌≤◌, ◌<◌, ◌≡◌, ◌≢◌, ◌⊎◌, inl, inr, ⊎_elim, refl, sym, ap, ◌∙◌, arith, length, nth, eq-eqb, ne_eqb, eqb, eq-or-lt_of_le, eq_or_ne}
-use Rattle.recipe_types.specs.Typemaps.{Entry, basic, joined, shifted}
+use mathlib.Core.List.{List}
+use lib.ListN.{length-map}
+use Rattle.laws.proofs.Prelude.{ℕ, zero, suc, ◌+◌, ◌-◌, ◌*◌, ◌≤◌, ◌<◌, ◌≡◌, ◌≢◌, ◌⊎◌, ⊎_elim, refl, sym, ap, ◌∙◌, arith, length, nth, eq-eqb, ne_eqb, eq-or-lt_of_le, eq_or_ne}
+use Rattle.recipe_types.specs.Typemaps.{Entry, basic}
 use Rattle.recipe_types.specs.Parts.{shape_at, shape_below, shape_named, basic_shape}
 use Rattle.recipe_types.proofs.Building.{length_joined}
-use Rattle.recipe_place.specs.declared.Row.{Row}
 use Rattle.recipe_place.specs.Parts.{row_of, plan_named, plan_copies, basic_copies, plan_before, plan_of, RowKept, Plan}
 
 -- among the entries of the first n steps, those of an earlier step are its own

@@ -1,22 +1,19 @@
 -- Judging a step: what its checks say of the type that it means, and the table with its row.
-use mathlib.Core.List.{List, [], ◌∷◌, ◌++◌, map}
-use lib.IntN.{◌+ℤ◌}
-use lib.ListN.{length-append, get_or-append}
-use lib.Seq.{get_or-append-add}
-use Rattle.laws.proofs.Prelude.{ℕ, suc, ◌+◌, ◌-◌, ◌*◌, ◌≤◌, ◌<◌, ◌≡◌, ◌≢◌, refl, sym, ap, ◌∙◌, Bool, true, false, not, true≢false, ◌⊎◌, inl, inr, ⊎_elim, within, arith, length, length-drop, nth, take, drop, eqb, leb, eqb-true, leb-true, lt-leb, le-leb, ltb-true, also_inv, either_inv, within_inv, check, check_yes, check_no, check_inv, cond_yes, cond_no, eq-eqb, ne_eqb, Fits, w64, mul-le-mul, eq-or-lt_of_le, lt_or_le, length-take-le, unflag_true, unflag_false, front, front_at, length_store, pos, ℤ, sub_ℕ, not-true, not-false}
+use mathlib.Core.List.{List, [], ◌∷◌, map}
+use Rattle.laws.proofs.Prelude.{ℕ, ◌+◌, ◌-◌, ◌*◌, ◌≤◌, ◌<◌, ◌≡◌, ◌≢◌, refl, sym, ap, ◌∙◌, Bool, true, false, not, ◌⊎◌, inl, inr, ⊎_elim, within, arith, length, nth, eqb, eqb-true, lt-leb, le-leb, ltb-true, also_inv, either_inv, check, check_yes, check_no, check_inv, Fits, w64, mul-le-mul, lt_or_le, unflag_true, unflag_false, pos, sub_ℕ, not-true, not-false}
 use Rattle.view.specs.Limits.{width_allowed}
 use Rattle.recipe_types.specs.declared.Shape.{Shape}
 use Rattle.recipe_types.specs.Typemaps.{Entry, Typemap, end_of, basic}
-use Rattle.recipe_types.specs.Recipes.{Recipe, recipe_of, Step, step_number, recipe_step, construct, step_type, names, none_zero, dimensions_allowed, entry_count_allowed, limits_kept}
-use Rattle.recipe_types.specs.Parts.{bias, max_place, copies_of, place_of, step_near, Capped, Places, Known, Lowest, Highest, Above, Each, Some, more, here, later, Spans, shape_at, basic_shape, shape_named, Nameable, limits_by, shape_made, Basic}
+use Rattle.recipe_types.specs.Recipes.{Recipe, recipe_of, step_number, recipe_step, construct, step_type, names, none_zero, dimensions_allowed, entry_count_allowed, limits_kept}
+use Rattle.recipe_types.specs.Parts.{bias, copies_of, step_near, Capped, Known, Above, Each, Some, more, here, later, shape_at, basic_shape, shape_named, Nameable, Basic}
 use Rattle.recipe_types.proofs.Integers.{pos_is, sum_is, is_once, same_is}
 use Rattle.recipe_types.proofs.Building.{type_is_basic, type_is_step, entry_count, copies_some}
 use Rattle.recipe_types.proofs.Shapes.{basic_known, limits_judged, known_made, far_limits}
 use Rattle.recipe_steps.specs.declared.StepNumbers.{StepNumbers}
-use Rattle.recipe_steps.specs.Parts.{numbers_at, step_by, names_by, Sound, Placeable, PlacesPut}
+use Rattle.recipe_steps.specs.Parts.{numbers_at, step_by, names_by, Sound}
 use Rattle.recipe_steps.proofs.Steps.{names_is, step_is}
 use Rattle.recipe_plan.specs.declared.Span.{Span}
-use Rattle.recipe_plan.specs.Parts.{StepKnown, Table, SpanOf, MakingReady, Made, row_numbers, sound_refusal, inner_refusal, Judged, Facing, PutAsked, RowPut, StepPut, FewCopies}
+use Rattle.recipe_plan.specs.Parts.{StepKnown, Table, sound_refusal, inner_refusal, Judged, Facing, PutAsked, RowPut, StepPut, FewCopies}
 
 -- ---- the least displacement is at most the greatest end
 

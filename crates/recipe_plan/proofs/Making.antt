@@ -1,12 +1,12 @@
 -- The numbers of what a step makes: no product wraps, and the tests are those of the limits.
-use Rattle.laws.proofs.Prelude.{ℕ, suc, ◌+◌, ◌-◌, ◌*◌, ◌≤◌, ◌<◌, ◌≡◌, ◌≢◌, refl, sym, ap, ◌∙◌, Bool, true, false, not, cond, ⊎_elim, List, arith, nth, leb, eqb, le-leb, lt-leb, leb-true, leb-false, also, also_no, also_yes, also_first, also_false, also_true, within_low, within_high, within_yes, within_inv, either, Fits, w64, to_z, to_z_pos, mul-le-mul, eq_or_ne, lt_or_le, le-ltb, unflag_true, unflag_false, within, also_inv, true≢false, ◌⊎◌, inl, inr}
+use Rattle.laws.proofs.Prelude.{ℕ, ◌+◌, ◌-◌, ◌*◌, ◌≤◌, ◌<◌, ◌≡◌, ◌≢◌, refl, sym, ap, ◌∙◌, Bool, true, false, not, cond, ⊎_elim, List, arith, leb, eqb, le-leb, lt-leb, leb-true, also_no, also_yes, also_first, also_false, also_true, within_low, within_high, within_yes, within_inv, either, Fits, w64, to_z, to_z_pos, mul-le-mul, lt_or_le, le-ltb, unflag_true, unflag_false, within, also_inv, true≢false, ◌⊎◌, inl, inr}
 use Rattle.view.specs.Types.{whole}
 use Rattle.recipe_types.specs.declared.Shape.{Shape}
 use Rattle.recipe_types.specs.Typemaps.{product}
-use Rattle.recipe_types.specs.Recipes.{Step, dimension_at, signed, contiguous_step, vector_step, indexed_step, subarray_step, resized_step}
-use Rattle.recipe_types.specs.Parts.{bias, max_place, copies_of, step_near, Capped, entries_fit, extent_got, limits_by, sets_bounds, shape_made}
+use Rattle.recipe_types.specs.Recipes.{dimension_at}
+use Rattle.recipe_types.specs.Parts.{bias, max_place, copies_of, step_near, Capped, entries_fit, extent_got, limits_by, shape_made}
 use Rattle.recipe_steps.specs.declared.StepNumbers.{StepNumbers}
-use Rattle.recipe_steps.specs.Parts.{step_by, Sound}
+use Rattle.recipe_steps.specs.Parts.{step_by}
 use Rattle.recipe_steps.proofs.Naming.{sets_is}
 use Rattle.recipe_steps.proofs.Steps.{kind_1, kind_2, kind_3, kind_4, kind_5}
 use Rattle.recipe_plan.specs.declared.Span.{Span}

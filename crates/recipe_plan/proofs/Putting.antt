@@ -1,12 +1,12 @@
 -- A step put into the table: its row and its places, each a part of a list that is lent and comes back.
 use mathlib.Core.List.{List, ◌++◌}
-use Rattle.laws.proofs.Prelude.{ℕ, ◌+◌, ◌-◌, ◌*◌, ◌≤◌, ◌<◌, ◌≡◌, ◌≢◌, refl, sym, ap, ◌∙◌, Bool, true, false, true≢false, ⊎_elim, arith, length, nth, take, drop, Fits, w64, mul-le-mul, front, front_at, length_store, add-zero}
+use Rattle.laws.proofs.Prelude.{ℕ, ◌+◌, ◌-◌, ◌*◌, ◌<◌, ◌≡◌, ◌≢◌, sym, ap, ◌∙◌, true, false, true≢false, ⊎_elim, arith, length, nth, take, drop, Fits, w64, mul-le-mul, front, front_at, length_store, add-zero}
 use Rattle.recipe_types.specs.declared.Shape.{Shape}
-use Rattle.recipe_types.specs.Parts.{bias, max_place, copies_of, place_of, Places, Spans, shape_at, limits_by, shape_made}
+use Rattle.recipe_types.specs.Parts.{copies_of, shape_at, limits_by, shape_made}
 use Rattle.recipe_steps.specs.declared.StepNumbers.{StepNumbers}
-use Rattle.recipe_steps.specs.Parts.{step_by, Placeable, PlacesPut}
+use Rattle.recipe_steps.specs.Parts.{step_by, PlacesPut}
 use Rattle.recipe_plan.specs.declared.Span.{Span}
-use Rattle.recipe_plan.specs.Parts.{SpanOf, MakingReady, Made, row_numbers, PutAsked, RowPut, StepPut}
+use Rattle.recipe_plan.specs.Parts.{SpanOf, MakingReady, Made, row_numbers, PutAsked, StepPut}
 use Rattle.recipe_plan.proofs.Middle.{mid_before, mid_at, mid_length, mid_lent}
 use Rattle.recipe_plan.proofs.Judging.{either_way}
 

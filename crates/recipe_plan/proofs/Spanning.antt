@@ -1,7 +1,6 @@
 -- The least and the greatest of the first numbers of a list, found one after another.
-use Rattle.laws.proofs.Prelude.{ℕ, suc, ◌+◌, ◌≤◌, ◌<◌, min, max, ◌≡◌, refl, ◌∙◌, ◌⊎◌, inl, inr, ⊎_elim, List, arith, nth, lt_or_le}
+use Rattle.laws.proofs.Prelude.{ℕ, ◌+◌, ◌≤◌, ◌<◌, min, max, ◌≡◌, refl, ◌⊎◌, inl, inr, ⊎_elim, List, arith, nth, lt_or_le}
 use Rattle.recipe_types.specs.Parts.{Spans}
-use Rattle.recipe_plan.specs.declared.Span.{Span}
 use Rattle.recipe_plan.specs.Parts.{SpanOf}
 
 pub span_one : (l : List ℕ) → Spans l 1 (nth l 0) (nth l 0)

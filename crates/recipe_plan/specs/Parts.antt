@@ -4,8 +4,7 @@ use Rattle.std.proofs.Math.IntN.{sub_ℕ}
 use Rattle.laws.specs.Checks.{check}
 use Rattle.laws.specs.Lists.{nth}
 use Rattle.recipe_types.specs.declared.Shape.{Shape}
-use Rattle.recipe_types.specs.Typemaps.{Typemap}
-use Rattle.recipe_types.specs.Recipes.{Recipe, recipe_of, Step, step_number, recipe_step, step_type, names, none_zero, dimensions_allowed, entry_count_allowed, limits_kept}
+use Rattle.recipe_types.specs.Recipes.{Recipe, recipe_of, step_number, recipe_step, step_type, names, none_zero, dimensions_allowed, entry_count_allowed, limits_kept}
 use Rattle.recipe_types.specs.Parts.{copies_of, place_of, step_near, max_place, bias, Places, Known, Spans, shape_at, shape_named, limits_by, shape_made}
 use Rattle.recipe_steps.specs.declared.StepNumbers.{StepNumbers}
 use Rattle.recipe_steps.specs.Parts.{numbers_at, step_by, names_by, Sound, Placeable}

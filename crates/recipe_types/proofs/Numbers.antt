@@ -1,5 +1,5 @@
 -- Numbers of a recipe's lists.
-use Rattle.laws.proofs.Prelude.{ℕ, ◌+◌, ◌*◌, ◌<◌, ◌≤◌, ◌≡◌, sym, true, false, List, length, nth, T, ltb, ltb→lt, eqb, Fits, w64, arith, cond_yes, cond_no, eq-eqb, ne_eqb, List·getD-eq-default}
+use Rattle.laws.proofs.Prelude.{ℕ, ◌+◌, ◌*◌, ◌<◌, ◌≤◌, ◌≡◌, sym, List, length, nth, T, ltb, ltb→lt, eqb, Fits, w64, arith, cond_yes, cond_no, eq-eqb, ne_eqb, List·getD-eq-default}
 use Rattle.recipe_types.specs.declared.Shape.{Shape}
 use Rattle.recipe_types.specs.Parts.{basic_shape, shape_at, shape_named, Nameable}
 

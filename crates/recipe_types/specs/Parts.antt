@@ -1,12 +1,12 @@
 -- Need not be believed. What the code computes with: a step as copies of the type that it names, natural numbers for places that may be negative, and a type's numbers.
-use Rattle.std.specs.Prelude.{ℕ, zero, suc, ◌+◌, ◌-◌, ◌*◌, ◌/◌, ◌%◌, ◌≤◌, ◌<◌, Bool, true, false, cond, List, [], ◌∷◌, map, ◌≡◌, leb, eqb, ℤ, pos, negsuc, ◌+ℤ◌, ◌*ℤ◌, length}
+use Rattle.std.specs.Prelude.{ℕ, suc, ◌+◌, ◌-◌, ◌*◌, ◌/◌, ◌%◌, ◌≤◌, ◌<◌, Bool, true, false, cond, List, [], ◌∷◌, map, ◌≡◌, leb, eqb, ℤ, pos, negsuc, ◌+ℤ◌, ◌*ℤ◌, length}
 use Rattle.std.proofs.Math.IntN.{sub_ℕ}
 use Rattle.laws.specs.Checks.{also, either, within}
 use Rattle.laws.specs.Search.{all, total}
 use Rattle.laws.specs.Lists.{nth}
 use Rattle.view.specs.Types.{whole}
 use Rattle.recipe_types.specs.declared.Shape.{Shape}
-use Rattle.recipe_types.specs.Typemaps.{Entry, Typemap, Block, Dimension, end_of, markers_else, block_place, element_place, product}
+use Rattle.recipe_types.specs.Typemaps.{Typemap, end_of, markers_else, block_place, element_place, product}
 use Rattle.recipe_types.specs.Recipes.{Step, contiguous_step, vector_step, indexed_step, subarray_step, resized_step, no_step}
 
 -- ---- a step as copies

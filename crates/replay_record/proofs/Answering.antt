@@ -1,19 +1,16 @@
 -- What each function of a tag answers, along its tests.
-use Rattle.laws.proofs.Prelude.{cond, not, not-true, not-false, unflag_true, unflag_false, ℕ, ◌+◌, ◌-◌, ◌^◌, ◌≤◌, ◌<◌, ◌≡◌, refl, sym, ap, ◌∙◌, Bool, true, false, List, ⊎_elim, arith, length, take, drop, replicate, length-replicate, ℤ, mag, w64, to_z, of_z, hbits, eqb, eq-eqb, ne_eqb, eqb-true, eq_or_ne, also, also_true, also_first, also_false, cond_yes, cond_no, tail_lent}
-use Rattle.view.specs.declared.Offset.{Offset}
+use Rattle.laws.proofs.Prelude.{cond, not, not-true, not-false, unflag_true, unflag_false, ℕ, ◌+◌, ◌-◌, ◌^◌, ◌≤◌, ◌<◌, ◌≡◌, refl, sym, ap, ◌∙◌, Bool, true, false, List, ⊎_elim, arith, length, take, drop, ℤ, mag, w64, to_z, of_z, hbits, eqb, eq-eqb, ne_eqb, eqb-true, eq_or_ne, also_true, also_first, also_false, cond_yes, cond_no, tail_lent}
 use Rattle.handle.specs.declared.FileRecord.{FileRecord}
 use Rattle.tagged_fields.specs.Numbers.{number_at, signed_at}
 use Rattle.tagged_fields.proofs.Bytes.{signed_read}
 use Rattle.set_record.specs.Sets.{view_in, lists_end, representation_in}
 use Rattle.file.specs.declared.AccessAnswer.{AccessAnswer}
-use Rattle.file.specs.declared.Handle.{Handle}
 use Rattle.file.specs.declared.OpenAnswer.{OpenAnswer}
 use Rattle.file.specs.declared.SeekAnswer.{SeekAnswer}
 use Rattle.file.specs.declared.SetViewAnswer.{SetViewAnswer}
 use Rattle.file.specs.Parts.{open_answer, set_view_answer, seek_answer, read_at_answer, write_at_answer, written_file}
 use Rattle.claim_calls.specs.declared.Begin.{Begin}
 use Rattle.claim_calls.specs.declared.Begin.TheVariants.{Pointer, Explicit}
-use Rattle.claim_calls.specs.declared.DataAccess.{DataAccess}
 use Rattle.claim_calls.specs.Offsets.{begins_at, offset_of}
 use Rattle.claim_calls.specs.Parts.{answer_as}
 use Rattle.claim_calls.specs.Accesses.{HasRead, Written}

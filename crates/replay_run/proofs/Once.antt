@@ -10,7 +10,7 @@ use Rattle.replay_record.specs.declared.Replay.{Replay}
 use Rattle.replay_record.specs.declared.Step.{Step}
 use Rattle.replay_record.specs.Records.{Recorded}
 use Rattle.replay_record.specs.Steps.{called, bytes_after, stepped}
-use Rattle.replay_run.specs.Traces.{numbers_of, Stop, Nowhere, At, Next, Over, Goes, record_next, field_next, next_at, Replays, over, goes}
+use Rattle.replay_run.specs.Traces.{numbers_of, Stop, At, Next, Over, Goes, record_next, field_next, next_at, Replays, over, goes}
 
 -- ---- one replay only
 

@@ -1,13 +1,12 @@
 -- A replay in pieces is the trace's replay, whatever the windows and the lists; why a piece says later. Rests on Once.antt.
-use Rattle.laws.proofs.Prelude.{◌⊎◌, inl, inr, ℕ, zero, suc, ◌+◌, ◌-◌, ◌*◌, ◌/◌, ◌%◌, ◌≤◌, ◌<◌, ◌≡◌, refl, sym, ap, ◌∙◌, subst, Bool, true, false, cond, List, ◌++◌, ⊎_elim, arith, add-zero, add-suc, length, length-drop, take, drop, tabulate_is, tabulate_add, eqb, eq-eqb, ne_eqb, eq_or_ne, cond_yes, cond_no, not_both, nth, tabulate, front, front_part, lt_or_le, least_false, least_false_le, least_false_keeps, least_false_breaks}
-use mathlib.Core.List.{◌∷◌, [], append_assoc, append-nil}
+use Rattle.laws.proofs.Prelude.{◌⊎◌, inl, inr, ℕ, zero, suc, ◌+◌, ◌-◌, ◌*◌, ◌/◌, ◌%◌, ◌≤◌, ◌<◌, ◌≡◌, refl, sym, ap, ◌∙◌, subst, Bool, true, false, cond, List, ◌++◌, ⊎_elim, arith, add-zero, length, length-drop, take, drop, tabulate_is, tabulate_add, eqb, eq-eqb, ne_eqb, eq_or_ne, cond_yes, cond_no, not_both, nth, tabulate, front_part, lt_or_le, least_false, least_false_le, least_false_keeps, least_false_breaks}
+use mathlib.Core.List.{append_assoc, append-nil}
 use native.Mathlib.Nat.{add_assoc}
 use lib.ListN.{length-take}
 use Rattle.tagged_fields.specs.declared.Field.{Field}
 use Rattle.tagged_fields.specs.declared.Field.TheVariants.{Whole, Cut, End}
 use Rattle.tagged_fields.specs.Fields.{field_at}
-use Rattle.tagged_fields.proofs.Windows.{FieldIs, field_is, end_is_there, whole_within, whole_past, whole_in, body_in, end_in, cut_in}
-use Rattle.replay_record.specs.declared.Line.{Line}
+use Rattle.tagged_fields.proofs.Windows.{FieldIs, field_is, whole_within, whole_past, whole_in, body_in, end_in, cut_in}
 use Rattle.replay_record.specs.declared.Replay.{Replay}
 use Rattle.replay_record.specs.declared.Step.{Step}
 use Rattle.replay_record.specs.Records.{Recorded, record_in}
@@ -16,9 +15,8 @@ use Rattle.replay_run.proofs.Once.{moved, replays_only, replays_is}
 use Rattle.replay_run.specs.declared.Ending.{Ending}
 use Rattle.replay_run.specs.declared.Ending.TheVariants.{Later, Complete, Stopped}
 use Rattle.replay_run.specs.declared.RunAnswer.{RunAnswer}
-use Rattle.replay_run.specs.declared.Turn.{Turn}
-use Rattle.replay_run.specs.Traces.{numbers_of, Stop, Nowhere, At, Next, Over, Goes, record_next, field_next, next_at, Replays, over, goes}
-use Rattle.replay_run.specs.Parts.{no_turn, step_turn, field_turn, field_bytes, turn_of, turn_bytes, Position, position, turn_from, after_turn, reached, turn_goes, turns_made, line_at, number_in, ending_after, run_of, RunMade}
+use Rattle.replay_run.specs.Traces.{numbers_of, Stop, Nowhere, At, Over, Goes, record_next, field_next, next_at, Replays, over, goes}
+use Rattle.replay_run.specs.Parts.{no_turn, step_turn, field_turn, field_bytes, turn_of, turn_bytes, Position, position, turn_from, after_turn, reached, turn_goes, turns_made, line_at, number_in, ending_after, run_of}
 use Rattle.replay_run.specs.Pieces.{NoRecordAt, Piece, InPieces, later, complete, stopped, SaysWhatCallsGive}
 
 -- ---- a turn in a window is what comes next in the trace

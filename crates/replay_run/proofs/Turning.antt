@@ -1,6 +1,5 @@
 -- One turn, along the code's tests; and turn after turn, as the loop makes them.
-use Rattle.laws.proofs.Prelude.{ℕ, zero, suc, ◌+◌, ◌-◌, ◌*◌, ◌/◌, ◌%◌, ◌≤◌, ◌<◌, ◌≡◌, refl, sym, ap, ◌∙◌, subst, Bool, true, false, not, cond, List, ⊎_elim, arith, add-one, add-zero, length, set, length-set, take, drop, w64, Fits, rules, eqb, eq-eqb, ne_eqb, not-true, not-false, cond_yes, cond_no, nth, front, store, store_none, store_run, eq_or_ne, not_both, Passed, passed_none, passed_more, passed_stop, passed_end, lt_or_le}
-use mathlib.Core.List.{◌∷◌, []}
+use Rattle.laws.proofs.Prelude.{ℕ, ◌+◌, ◌-◌, ◌*◌, ◌/◌, ◌%◌, ◌≤◌, ◌<◌, ◌≡◌, refl, sym, ap, ◌∙◌, subst, Bool, true, false, not, cond, List, ⊎_elim, arith, add-one, add-zero, length, set, take, drop, w64, Fits, rules, eqb, eq-eqb, ne_eqb, not-true, not-false, cond_yes, cond_no, nth, front, store, store_none, store_run, eq_or_ne, not_both, Passed, passed_none, passed_more, passed_stop, passed_end}
 use Rattle.tagged_fields.specs.declared.Field.{Field}
 use Rattle.tagged_fields.specs.declared.Field.TheVariants.{Whole, Cut, End}
 use Rattle.tagged_fields.specs.Fields.{field_at}
@@ -12,7 +11,6 @@ use Rattle.replay_record.specs.Records.{Recorded, Opens, Sets, Seeks, Reads, Wri
 use Rattle.replay_record.specs.Steps.{called, bytes_after, stepped, Replayed}
 use Rattle.replay_run.specs.declared.Ending.{Ending}
 use Rattle.replay_run.specs.declared.Ending.TheVariants.{Later, Complete, Stopped}
-use Rattle.replay_run.specs.declared.RunAnswer.{RunAnswer}
 use Rattle.replay_run.specs.declared.Turn.{Turn}
 use Rattle.replay_run.specs.Traces.{numbers_of}
 use Rattle.replay_run.specs.Parts.{no_turn, step_turn, field_turn, field_bytes, turn_of, turn_bytes, TurnMade, Position, position, turn_from, after_turn, reached, turn_goes, turns_made, line_at, number_in, ending_after, run_of, RunMade}

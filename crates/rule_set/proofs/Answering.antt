@@ -1,5 +1,5 @@
 -- The answers of `accept`, from what its calls ensure.
-use Rattle.laws.proofs.Prelude.{ℕ, ◌/◌, zero, suc, ◌≤◌, ◌<◌, ◌≡◌, refl, sym, ap, ◌∙◌, subst, List, ⊎_elim, arith, length, take, replicate, get_or-replicate, length-replicate, ℤ, length-take-le, w64, SFits, to_z, of_z, to_z-of_z, granted, nth, front, granted_yes, granted_no, eq_or_ne, length_store}
+use Rattle.laws.proofs.Prelude.{ℕ, ◌/◌, zero, suc, ◌≤◌, ◌<◌, ◌≡◌, sym, ap, ◌∙◌, subst, List, ⊎_elim, arith, length, take, replicate, get_or-replicate, length-replicate, ℤ, length-take-le, w64, SFits, to_z, of_z, to_z-of_z, granted, nth, front, granted_yes, granted_no, eq_or_ne, length_store}
 use Rattle.view.specs.declared.Fault.{Fault}
 use Rattle.view.specs.declared.Named.TheVariants.{Nothing}
 use Rattle.view.specs.declared.View.{View}

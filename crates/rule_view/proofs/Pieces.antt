@@ -1,10 +1,10 @@
 -- Rules on the etype and on numbers alone, and entries that follow one another.
-use Rattle.laws.proofs.Prelude.{ℕ, zero, suc, ◌+◌, ◌-◌, ◌*◌, ◌/◌, ◌%◌, ◌≤◌, ◌<◌, ◌≡◌, refl, sym, ◌∙◌, true, ⊎_elim, arith, mod-lt, leb, eq-eqb, lt-ltb, le-ltb, within, all, nth, lt_or_le, all_same, run_below, run_div, run_mod, runs_below, next_in, next_over, times_more, length_tabulate}
+use Rattle.laws.proofs.Prelude.{ℕ, ◌+◌, ◌-◌, ◌*◌, ◌/◌, ◌%◌, ◌≤◌, ◌<◌, ◌≡◌, refl, sym, ◌∙◌, true, ⊎_elim, arith, mod-lt, leb, eq-eqb, within, all, nth, lt_or_le, all_same, run_below, run_div, run_mod, runs_below, next_in, next_over, times_more, length_tabulate}
 use Rattle.view.specs.declared.View.{View}
 use Rattle.view.specs.Limits.{etype_entries_allowed, entry_displacement_allowed, extent_allowed, displacement_allowed}
 use Rattle.view.specs.Types.{paper, entries}
-use Rattle.view.specs.Rules.{paired, entry_allowed, entries_allowed, type_ordered, instances, hole}
-use Rattle.view.specs.Parts.{ordered, holes_fit}
+use Rattle.view.specs.Rules.{paired, entry_allowed, entries_allowed, type_ordered, instances}
+use Rattle.view.specs.Parts.{ordered}
 use Rattle.view.proofs.Paper.{paper_entries, paper_width, paper_displacement_read, paper_displacement}
 use Rattle.rule_limits.specs.Parts.{entry_fits}
 use Rattle.rule_entries.specs.Parts.{entry_fits_at}

@@ -1,5 +1,5 @@
 -- What a field's place says of the run, and the fields in a window of a longer run: a whole field of the window is one of the run, and where the window ends the run, all of them are.
-use Rattle.laws.proofs.Prelude.{◌⊎◌, inl, inr, ℕ, zero, suc, ◌+◌, ◌-◌, ◌*◌, ◌≤◌, ◌<◌, ◌≡◌, refl, sym, ap, ◌∙◌, subst, List, ⊎_elim, arith, length, take, drop, length-drop, length-take-le, get_or-take, get_or-drop, ext_get_or, nth, lt_or_le}
+use Rattle.laws.proofs.Prelude.{◌⊎◌, inl, inr, ℕ, zero, suc, ◌+◌, ◌-◌, ◌≤◌, ◌<◌, ◌≡◌, refl, sym, ap, ◌∙◌, subst, List, ⊎_elim, arith, length, take, drop, length-drop, length-take-le, get_or-take, get_or-drop, ext_get_or, nth, lt_or_le}
 use native.Mathlib.Nat.{add_assoc}
 use lib.ListN.{length-take}
 use lib.Seq.{take_all}

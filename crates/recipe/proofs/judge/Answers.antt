@@ -1,5 +1,5 @@
 -- `judge` judges the steps in order, and the last one by checks 32 and 33 too. Assumes nothing.
-use Rattle.laws.proofs.Prelude.{◌-◌, ◌≡◌, refl, rules}
+use Rattle.laws.proofs.Prelude.{◌-◌, refl, rules}
 use Rattle.recipe.proofs.Judging.{judging_none, judging_below, judging_more, judging_stop, judging_some, judging_last, judging_end, judged_count}
 use Rattle.recipe.proofs.judge.Goals as goal
 

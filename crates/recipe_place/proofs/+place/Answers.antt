@@ -1,5 +1,5 @@
 -- `place` puts the copies of what a step names one after another, each by a call of itself for the earlier step, which has a smaller number. Assumes nothing.
-use Rattle.laws.proofs.Prelude.{◌-◌, ◌<◌}
+use Rattle.laws.proofs.Prelude.{◌-◌}
 use Rattle.recipe_place.proofs.Descending.{step_below, rows_are, basic_of, placed_basic, named_row, descend_none, descend_fits, descend_at, descend_in_widths, descend_in_displacements, descend_asked, descend_more, descend_end, descend_bytes, descend_falls}
 use Rattle.recipe_place.proofs.+place.Goals as goal
 

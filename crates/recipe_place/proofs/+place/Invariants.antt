@@ -1,5 +1,5 @@
 -- `place` puts the copies of what a step names one after another, each by a call of itself for the earlier step, which has a smaller number. Assumes nothing.
-use Rattle.laws.proofs.Prelude.{◌-◌, ◌<◌}
+use Rattle.laws.proofs.Prelude.{◌-◌}
 use Rattle.recipe_place.proofs.Descending.{Descending}
 use Rattle.recipe_place.proofs.+place.Given as goal
 

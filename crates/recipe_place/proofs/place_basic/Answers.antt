@@ -1,5 +1,5 @@
 -- `place_basic` puts an entry a turn after those placed before. Assumes nothing.
-use Rattle.laws.proofs.Prelude.{◌-◌, ◌≡◌, rules}
+use Rattle.laws.proofs.Prelude.{◌-◌, rules}
 use Rattle.recipe_place.proofs.Placing.{basic_none, basic_more, basic_end, basic_fits, basic_at_least, basic_at_most, basic_in_widths, basic_in_displacements}
 use Rattle.recipe_place.proofs.place_basic.Goals as goal
 

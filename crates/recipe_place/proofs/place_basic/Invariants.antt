@@ -1,5 +1,5 @@
 -- `place_basic` puts an entry a turn after those placed before. Assumes nothing.
-use Rattle.laws.proofs.Prelude.{◌-◌, ◌≡◌, length}
+use Rattle.laws.proofs.Prelude.{◌-◌, length}
 use Rattle.recipe_types.specs.Typemaps.{basic}
 use Rattle.recipe_place.specs.Parts.{BasicFits}
 use Rattle.recipe_place.proofs.Placing.{Copying}

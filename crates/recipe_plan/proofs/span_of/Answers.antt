@@ -1,5 +1,5 @@
 -- `span_of` compares each place with the least and the greatest before it. Assumes nothing.
-use Rattle.laws.proofs.Prelude.{◌-◌, ◌≤◌, ◌≡◌, arith, rules}
+use Rattle.laws.proofs.Prelude.{◌-◌, arith, rules}
 use Rattle.recipe_plan.proofs.Spanning.{span_one, span_more, span_end}
 use Rattle.recipe_plan.proofs.span_of.Goals as goal
 

@@ -1,5 +1,5 @@
 -- `span_of` compares each place with the least and the greatest before it. Assumes nothing.
-use Rattle.laws.proofs.Prelude.{◌-◌, ◌≤◌, ◌≡◌, length}
+use Rattle.laws.proofs.Prelude.{◌-◌, ◌≤◌, length}
 use Rattle.recipe_types.specs.Parts.{Spans}
 use Rattle.recipe_plan.proofs.span_of.Given as goal
 

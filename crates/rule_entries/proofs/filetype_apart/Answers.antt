@@ -1,5 +1,5 @@
 -- `filetype_apart` passes the entries in order and leaves at the first that reaches past the next one's beginning. Assumes nothing.
-use Rattle.laws.proofs.Prelude.{◌-◌, ◌≤◌, ◌<◌, ◌≡◌, rules, passed_none}
+use Rattle.laws.proofs.Prelude.{◌-◌, rules, passed_none}
 use Rattle.rule_entries.proofs.Fitting.{end_fits, end_last, tile_fits, pair_apart, pair_more, pair_overlaps, apart_fails, apart_last, lists_some}
 use Rattle.rule_entries.proofs.filetype_apart.Goals as goal
 

@@ -1,5 +1,5 @@
 -- `copy_displacements` stores each displacement at its index. Assumes nothing.
-use Rattle.laws.proofs.Prelude.{◌-◌, ◌≤◌, ◌≡◌, refl, arith, length-set, set_long, store_none, store_more, store_end}
+use Rattle.laws.proofs.Prelude.{◌-◌, refl, arith, length-set, set_long, store_none, store_more, store_end}
 use Rattle.rule_groups.proofs.Building.{whole_read}
 use Rattle.rule_groups.proofs.copy_displacements.Goals as goal
 

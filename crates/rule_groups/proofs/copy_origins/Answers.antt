@@ -1,5 +1,5 @@
 -- `copy_origins` stores the origin of each group. Assumes nothing.
-use Rattle.laws.proofs.Prelude.{◌-◌, ◌/◌, ◌≤◌, ◌<◌, ◌≡◌, refl, arith, rules, set_long, scaled_Fits, store_more, store_none}
+use Rattle.laws.proofs.Prelude.{◌-◌, refl, arith, rules, set_long, scaled_Fits, store_more, store_none}
 use Rattle.rule_groups.proofs.Building.{origins_end, origin_is, group_in, group_fits_law}
 use Rattle.rule_groups.proofs.copy_origins.Goals as goal
 

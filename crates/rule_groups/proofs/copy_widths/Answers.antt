@@ -1,5 +1,5 @@
 -- `copy_widths` stores each width at its index. Assumes nothing.
-use Rattle.laws.proofs.Prelude.{◌-◌, ◌≤◌, ◌≡◌, refl, arith, length-set, set_long, store_none, store_more, store_end}
+use Rattle.laws.proofs.Prelude.{◌-◌, refl, arith, length-set, set_long, store_none, store_more, store_end}
 use Rattle.rule_groups.proofs.copy_widths.Goals as goal
 
 pub loop-i-init : goal.loop-i-init

@@ -1,5 +1,5 @@
 -- `first_group_fault` passes the groups in order, and in each its entries and then its origin, and leaves both loops at the first fault. Assumes nothing.
-use Rattle.laws.proofs.Prelude.{◌-◌, ◌*◌, ◌/◌, ◌≤◌, ◌<◌, ◌≡◌, refl, arith, rules, scaled_Fits, passed_none, passed_more, ap, not}
+use Rattle.laws.proofs.Prelude.{◌-◌, refl, arith, rules, scaled_Fits, passed_none, passed_more, ap, not}
 use Rattle.rule_groups.proofs.Building.{ready_some, ready_groups, begin_in_law, begin_fits, entry_in, entry_pair, entry_fits_law, place_in_law, place_scaled, entry_yes, entry_no, fault_none, fault_entry, fault_origin, group_fits_on, groups_few}
 use Rattle.rule_groups.proofs.first_group_fault.Goals as goal
 

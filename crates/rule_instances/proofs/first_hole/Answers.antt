@@ -1,5 +1,5 @@
 -- `first_hole` passes the holes in order: the first, those between instances, the last. Assumes nothing.
-use Rattle.laws.proofs.Prelude.{◌-◌, ◌+◌, ◌≤◌, ◌<◌, rules}
+use Rattle.laws.proofs.Prelude.{◌-◌, rules}
 use Rattle.rule_instances.proofs.Holes.{hole_first, hole_first_no, hole_between, hole_between_no, hole_found, hole_found_first, holes_passed, holes_more, hole_found_last, holes_none}
 use Rattle.rule_instances.proofs.first_hole.Goals as goal
 

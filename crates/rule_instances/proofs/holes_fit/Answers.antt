@@ -1,5 +1,5 @@
 -- `holes_fit` passes the holes in order: the first, those between instances, the last. Assumes nothing.
-use Rattle.laws.proofs.Prelude.{◌-◌, ◌+◌, ◌≤◌, ◌<◌, rules}
+use Rattle.laws.proofs.Prelude.{◌-◌, rules}
 use Rattle.rule_instances.proofs.Holes.{hole_first, hole_first_no, hole_between, hole_between_no, holes_fail, holes_fail_first, holes_passed, holes_more, holes_last}
 use Rattle.rule_instances.proofs.holes_fit.Goals as goal
 

@@ -1,5 +1,5 @@
 -- `instances_fit` passes the instances in order and leaves at the first that reaches past the limit. Assumes nothing.
-use Rattle.laws.proofs.Prelude.{◌-◌, ◌≤◌, rules, passed_fails, passed_holds, passed_more, passed_none}
+use Rattle.laws.proofs.Prelude.{◌-◌, rules, passed_fails, passed_holds, passed_more, passed_none}
 use Rattle.rule_instances.proofs.Stepping.{reach_over, reach_past, reach_within}
 use Rattle.rule_instances.proofs.instances_fit.Goals as goal
 

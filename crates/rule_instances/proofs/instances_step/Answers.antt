@@ -1,5 +1,5 @@
 -- `instances_step` passes the instances in order and leaves at the first that reaches past the next. Assumes nothing.
-use Rattle.laws.proofs.Prelude.{◌-◌, ◌≤◌, rules, passed_fails, passed_holds, passed_more, passed_none}
+use Rattle.laws.proofs.Prelude.{◌-◌, rules, passed_fails, passed_holds, passed_more, passed_none}
 use Rattle.rule_instances.specs.Parts.{origins_step}
 use Rattle.rule_instances.proofs.Stepping.{next_fits, step_false, step_fits, step_true}
 use Rattle.rule_instances.proofs.instances_step.Goals as goal

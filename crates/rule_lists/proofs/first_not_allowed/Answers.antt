@@ -1,5 +1,5 @@
 -- `first_not_allowed` passes the entries in order and leaves at the first that is not allowed. Assumes nothing.
-use Rattle.laws.proofs.Prelude.{◌-◌, ◌≡◌, passed_none, passed_stop, passed_more, passed_end}
+use Rattle.laws.proofs.Prelude.{◌-◌, passed_none, passed_stop, passed_more, passed_end}
 use Rattle.rule_lists.proofs.Lending.{lent_no, lent_yes}
 use Rattle.rule_lists.proofs.first_not_allowed.Goals as goal
 

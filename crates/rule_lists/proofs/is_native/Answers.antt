@@ -1,5 +1,5 @@
 -- `is_native` compares the length, then byte by byte. Assumes nothing.
-use Rattle.laws.proofs.Prelude.{◌-◌, ◌≡◌, passed_none, passed_more}
+use Rattle.laws.proofs.Prelude.{◌-◌, passed_none, passed_more}
 use Rattle.view.specs.Rules.{native_name}
 use Rattle.rule_lists.proofs.Lending.{native_short, native_fails, native_no, native_yes, native_holds}
 use Rattle.rule_lists.proofs.is_native.Goals as goal

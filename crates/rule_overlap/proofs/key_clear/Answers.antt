@@ -1,5 +1,5 @@
 -- `key_clear` compares the key with a tile, and then with the earlier keys in order. Assumes nothing.
-use Rattle.laws.proofs.Prelude.{◌-◌, ◌%◌, ◌≤◌, ◌<◌, ◌≡◌, rules, passed_more, passed_none}
+use Rattle.laws.proofs.Prelude.{◌-◌, rules, passed_more, passed_none}
 use Rattle.rule_overlap.proofs.Testing.{wide_key, pair_true, key_clashes, key_passes, earlier_begins, key_begins_as, extent_small}
 use Rattle.rule_overlap.proofs.key_clear.Goals as goal
 

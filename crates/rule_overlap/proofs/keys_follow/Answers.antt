@@ -1,5 +1,5 @@
 -- `keys_follow` passes the keys in order and leaves at the first that reaches past the next one's beginning. Assumes nothing.
-use Rattle.laws.proofs.Prelude.{◌-◌, ◌<◌, ◌≡◌, rules, passed_more, passed_none}
+use Rattle.laws.proofs.Prelude.{◌-◌, rules, passed_more, passed_none}
 use Rattle.rule_overlap.proofs.Testing.{keys_some, end_before, end_last, tile_fits, key_ends_law, key_reaches, follow_fails, follow_last}
 use Rattle.rule_overlap.proofs.keys_follow.Goals as goal
 

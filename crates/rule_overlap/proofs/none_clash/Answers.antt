@@ -1,5 +1,4 @@
 -- `none_clash` sorts the keys, and asks only neighbours. Assumes nothing.
-use Rattle.laws.proofs.Prelude.{◌≡◌}
 use Rattle.rule_overlap.proofs.Keys.{sorted_valid, sorted_answer, sorted_length}
 use Rattle.rule_overlap.proofs.none_clash.Goals as goal
 

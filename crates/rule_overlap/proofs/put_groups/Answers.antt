@@ -1,5 +1,5 @@
 -- `put_groups` puts the keys of one group after those of another. Assumes nothing.
-use Rattle.laws.proofs.Prelude.{◌-◌, ◌*◌, ◌≤◌, ◌≡◌, arith, rules, prefix}
+use Rattle.laws.proofs.Prelude.{◌-◌, arith, rules, prefix}
 use Rattle.rule_overlap.proofs.Filling.{groups_fit, group_keyed, group_more, groups_none, groups_end, stored_long}
 use Rattle.rule_overlap.proofs.put_groups.Goals as goal
 

@@ -1,5 +1,5 @@
 -- `put_keys` stores the key of each entry at its place. Assumes nothing.
-use Rattle.laws.proofs.Prelude.{◌+◌, ◌-◌, ◌≤◌, ◌≡◌, rules, set_long, store_none, store_more, store_end}
+use Rattle.laws.proofs.Prelude.{◌-◌, rules, set_long, store_none, store_more, store_end}
 use Rattle.rule_overlap.proofs.Filling.{read_in_law, sum_fits, product_fits, key_fits, place_fits, place_in_law, key_value, extent_some}
 use Rattle.rule_overlap.proofs.put_keys.Goals as goal
 

@@ -1,5 +1,5 @@
 -- `numbers_into` stores each number at its index. Assumes nothing.
-use Rattle.laws.proofs.Prelude.{◌-◌, ◌≤◌, ◌≡◌, storing}
+use Rattle.laws.proofs.Prelude.{◌-◌, storing}
 use Rattle.tagged_fields.proofs.numbers_into.Goals as goal
 
 pub loop-i-init : goal.loop-i-init

@@ -1,5 +1,5 @@
 -- `signed_into` stores each signed number at its index. Assumes nothing.
-use Rattle.laws.proofs.Prelude.{◌-◌, ◌≤◌, ◌≡◌, refl, ◌∙◌, length-set, store_more, storing}
+use Rattle.laws.proofs.Prelude.{◌-◌, refl, ◌∙◌, length-set, store_more, storing}
 use Rattle.tagged_fields.proofs.Bytes.{signed_read}
 use Rattle.tagged_fields.proofs.signed_into.Goals as goal
 

@@ -1,5 +1,5 @@
 -- `signed_into` stores each signed number at its index. Assumes nothing.
-use Rattle.laws.proofs.Prelude.{◌-◌, ◌≤◌, ◌≡◌, ◌∙◌, length, front}
+use Rattle.laws.proofs.Prelude.{◌-◌, ◌≤◌, ◌≡◌, length, front}
 use Rattle.tagged_fields.specs.Numbers.{signed_from}
 use Rattle.tagged_fields.proofs.signed_into.Given as goal
 

@@ -1,5 +1,4 @@
 -- `owner_in_instance` tries entry after entry. The invariant: no entry before i has a pair of the byte, and their widths are summed. Assumes nothing.
-use Rattle.laws.proofs.Prelude.{◌-◌}
 use Rattle.view_owner.proofs.Instances.{tried_none, tried_more, tried_stop, start_fits, packed_fits, data_small, tried_end}
 use Rattle.view_owner.proofs.owner_in_instance.Goals as goal
 

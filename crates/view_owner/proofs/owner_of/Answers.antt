@@ -1,5 +1,4 @@
 -- `owner_of` tries instance after instance. The invariant: no instance before g has a pair of the byte. Assumes nothing.
-use Rattle.laws.proofs.Prelude.{◌-◌}
 use Rattle.view_owner.proofs.Firsts.{missed_none}
 use Rattle.view_owner.proofs.Whole.{lookup_more, lookup_stop, origin_held, origin_scaled, begin_fits, instance_valid, lookup_end}
 use Rattle.view_owner.proofs.owner_of.Goals as goal

@@ -1,5 +1,5 @@
 -- `end_of` takes the greatest over the instances, which is end of file. The invariant: `end` is the greatest of the first i. Assumes nothing.
-use Rattle.laws.proofs.Prelude.{◌-◌, highest_none, highest_more}
+use Rattle.laws.proofs.Prelude.{highest_none, highest_more}
 use Rattle.view_place.proofs.Placing.{end_at_law, origin_below, origin_scaled, start_fits, end_signed, end_found}
 use Rattle.view_place.proofs.end_of.Goals as goal
 

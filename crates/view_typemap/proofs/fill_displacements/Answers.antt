@@ -1,5 +1,5 @@
 -- `fill_displacements` stores at each index the displacement of the entry that it stands at, shifted by the origin of the group; they are remainder and quotient of the index. Assumes nothing.
-use Rattle.laws.proofs.Prelude.{◌*◌, ◌-◌, ◌/◌, ◌%◌, ◌≤◌, ◌≡◌, refl, arith, set_long, store_none, store_more, store_end}
+use Rattle.laws.proofs.Prelude.{refl, arith, set_long, store_none, store_more, store_end}
 use Rattle.view_typemap.proofs.Filling.{entry_below, entry_held, entry_scaled, group_held, group_scaled, sum_small, first_group, first_entry, group_next, entry_next, displacement_is}
 use Rattle.view_typemap.proofs.fill_displacements.Goals as goal
 

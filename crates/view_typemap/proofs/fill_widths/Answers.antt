@@ -1,5 +1,5 @@
 -- `fill_widths` stores at each index the width of the entry that it stands at, which is the remainder of the index. Assumes nothing.
-use Rattle.laws.proofs.Prelude.{◌*◌, ◌-◌, ◌%◌, ◌≤◌, ◌≡◌, refl, arith, set_long, store_none, store_more, store_end}
+use Rattle.laws.proofs.Prelude.{refl, arith, set_long, store_none, store_more, store_end}
 use Rattle.view_typemap.proofs.Filling.{entry_below, entry_held, entry_scaled, first_entry, entry_next, width_is}
 use Rattle.view_typemap.proofs.fill_widths.Goals as goal
 

@@ -1,6 +1,6 @@
 -- `all_inside` passes the dimensions in order and leaves at the first that is not inside. Assumes nothing.
-use Rattle.laws.proofs.Prelude.{◌+◌, ◌-◌, passed_none, passed_more, passed_fails, passed_holds, unflag_true, unflag_false}
-use Rattle.laws.proofs.Prelude.{◌+◌, ◌-◌, passed_none, passed_more, passed_fails, passed_holds, unflag_true, unflag_false}
+use Rattle.laws.proofs.Prelude.{◌-◌, passed_none, passed_more, passed_fails, passed_holds, unflag_true, unflag_false}
+use Rattle.laws.proofs.Prelude.{◌-◌, passed_none, passed_more, passed_fails, passed_holds, unflag_true, unflag_false}
 use Rattle.recipe_steps.proofs.checks.all_inside.Goals as goal
 
 pub loop-i-init : goal.loop-i-init

@@ -1,7 +1,7 @@
 -- `all_some` passes the items in order and leaves at the first 0, at the end of the list at the latest. Assumes nothing.
-use Rattle.laws.proofs.Prelude.{◌+◌, ◌-◌, ◌<◌, passed_none, passed_more, passed_fails, passed_holds, rules}
+use Rattle.laws.proofs.Prelude.{◌-◌, passed_none, passed_more, passed_fails, passed_holds, rules}
 use Rattle.recipe_steps.proofs.Zeros.{some_yes, some_no}
-use Rattle.laws.proofs.Prelude.{◌+◌, ◌-◌, ◌<◌, passed_none, passed_more, passed_fails, passed_holds, rules}
+use Rattle.laws.proofs.Prelude.{◌-◌, passed_none, passed_more, passed_fails, passed_holds, rules}
 use Rattle.recipe_steps.proofs.checks.all_some.Goals as goal
 
 pub loop-i-init : goal.loop-i-init

@@ -1,9 +1,9 @@
 -- `blocks_near` passes the blocks in order and leaves at the first that is not near. Assumes nothing.
-use Rattle.laws.proofs.Prelude.{◌+◌, ◌-◌, passed_none, passed_more, passed_fails, passed_holds}
+use Rattle.laws.proofs.Prelude.{◌-◌, passed_none, passed_more, passed_fails, passed_holds}
 use Rattle.recipe_steps.proofs.Complement.{far_item, near_item}
-use Rattle.laws.proofs.Prelude.{◌+◌, ◌-◌, passed_none, passed_more, passed_fails, passed_holds}
-use Rattle.laws.proofs.Prelude.{◌+◌, ◌-◌, passed_none, passed_more, passed_fails, passed_holds}
-use Rattle.laws.proofs.Prelude.{◌+◌, ◌-◌, passed_none, passed_more, passed_fails, passed_holds}
+use Rattle.laws.proofs.Prelude.{◌-◌, passed_none, passed_more, passed_fails, passed_holds}
+use Rattle.laws.proofs.Prelude.{◌-◌, passed_none, passed_more, passed_fails, passed_holds}
+use Rattle.laws.proofs.Prelude.{◌-◌, passed_none, passed_more, passed_fails, passed_holds}
 use Rattle.recipe_steps.proofs.counting.blocks_near.Goals as goal
 
 pub loop-i-init : goal.loop-i-init

@@ -1,7 +1,7 @@
 -- `product_of` multiplies until the product is above the limit. Assumes nothing.
-use Rattle.laws.proofs.Prelude.{◌+◌, ◌-◌, rules}
+use Rattle.laws.proofs.Prelude.{◌-◌, rules}
 use Rattle.recipe_steps.proofs.Capping.{multiplied_none, multiplied_more, multiplied_large, multiplied_over, multiplied_end, product_fits}
-use Rattle.laws.proofs.Prelude.{◌+◌, ◌-◌, rules}
+use Rattle.laws.proofs.Prelude.{◌-◌, rules}
 use Rattle.recipe_steps.proofs.counting.product_of.Goals as goal
 
 pub loop-i-init : goal.loop-i-init

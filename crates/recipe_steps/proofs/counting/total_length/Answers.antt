@@ -1,9 +1,9 @@
 -- `total_length` adds up the block lengths until the sum is above 256. Assumes nothing.
-use Rattle.laws.proofs.Prelude.{◌+◌, ◌-◌}
+use Rattle.laws.proofs.Prelude.{◌-◌}
 use Rattle.recipe_steps.proofs.Capping.{summed_none, summed_more, summed_large, summed_over, summed_end, sum_fits}
-use Rattle.laws.proofs.Prelude.{◌+◌, ◌-◌}
-use Rattle.laws.proofs.Prelude.{◌+◌, ◌-◌}
-use Rattle.laws.proofs.Prelude.{◌+◌, ◌-◌}
+use Rattle.laws.proofs.Prelude.{◌-◌}
+use Rattle.laws.proofs.Prelude.{◌-◌}
+use Rattle.laws.proofs.Prelude.{◌-◌}
 use Rattle.recipe_steps.proofs.counting.total_length.Goals as goal
 
 pub loop-i-init : goal.loop-i-init

@@ -1,5 +1,5 @@
 -- `element_place` asks itself for the place in the dimensions before the last, which is the number of whole rows. The measure is the number of dimensions. Assumes nothing.
-use Rattle.laws.proofs.Prelude.{◌<◌, rules}
+use Rattle.laws.proofs.Prelude.{rules}
 use Rattle.recipe_steps.proofs.Elements.{element_none, array_less, subsize_above, column_fits, rows_fit, place_fits, element_more}
 use Rattle.recipe_steps.proofs.places.+element_place.Goals as goal
 

@@ -1,5 +1,5 @@
 -- `put_blocks` puts a run a block; the next one begins a stride further on. Assumes nothing.
-use Rattle.laws.proofs.Prelude.{◌-◌, ◌≤◌, rules}
+use Rattle.laws.proofs.Prelude.{◌-◌, rules}
 use Rattle.recipe_steps.proofs.Placing.{put_none, blocks_none, blocks_more, blocks_end, block_small, block_room, block_put, start_fits, start_above, at_fits}
 use Rattle.recipe_steps.proofs.places.put_blocks.Goals as goal
 

@@ -1,5 +1,5 @@
 -- `put_elements` puts the places one by one. Assumes nothing.
-use Rattle.laws.proofs.Prelude.{◌-◌, ◌≤◌, rules}
+use Rattle.laws.proofs.Prelude.{◌-◌, rules}
 use Rattle.recipe_steps.proofs.Placing.{put_none}
 use Rattle.recipe_steps.proofs.Elements.{element_fits, element_put, element_room, elements_end}
 use Rattle.recipe_steps.proofs.places.put_elements.Goals as goal

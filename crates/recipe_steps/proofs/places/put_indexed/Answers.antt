@@ -1,5 +1,5 @@
 -- `put_indexed` puts a run a block, behind the copies of the blocks before it. Assumes nothing.
-use Rattle.laws.proofs.Prelude.{◌-◌, ◌≤◌, rules}
+use Rattle.laws.proofs.Prelude.{◌-◌, rules}
 use Rattle.recipe_steps.proofs.Placing.{put_none}
 use Rattle.recipe_steps.proofs.Indexing.{indexed_none, indexed_more, indexed_end, indexed_fits, indexed_small, indexed_room, indexed_put, displacement_near}
 use Rattle.recipe_steps.proofs.places.put_indexed.Goals as goal

@@ -1,5 +1,5 @@
 -- `put_run` stores each number at its place. Assumes nothing.
-use Rattle.laws.proofs.Prelude.{◌+◌, ◌-◌, ◌≤◌, ◌≡◌, set_long, store_none, store_more, store_end, rules}
+use Rattle.laws.proofs.Prelude.{◌-◌, set_long, store_none, store_more, store_end, rules}
 use Rattle.recipe_steps.proofs.places.put_run.Goals as goal
 
 pub loop-j-init : goal.loop-j-init

@@ -1,5 +1,4 @@
 -- `step` makes the call and has the line of its answer. Assumes nothing.
-use Rattle.laws.proofs.Prelude.{ap, not}
 use Rattle.replay_record.specs.Steps.{line_of, next_of}
 use Rattle.replay_record.proofs.Answering.{step_bad, step_good}
 use Rattle.replay_record.proofs.Replay.step.Goals as goal
@@ -9,4 +8,4 @@ returns-then-not-a c = search step_bad
 
 pub returns : goal.returns
 unfolding line_of next_of
-returns c = step_good _ _ _ _ _ c.call-a.ensures (ap not c.if-not-a.false)
+returns c = step_good _ _ _ _ _ c.call-a.ensures c.if-not-a.false

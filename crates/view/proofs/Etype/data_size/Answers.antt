@@ -1,5 +1,4 @@
 -- `data_size` sums the widths. Assumes nothing.
-use Rattle.laws.proofs.Prelude.{◌-◌}
 use Rattle.view.proofs.Etypes.{summed_none, summed_more, summed_end, entry_held, entry_scaled, sum_fits}
 use Rattle.view.proofs.Etype.data_size.Goals as goal
 

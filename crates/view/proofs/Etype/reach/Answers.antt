@@ -1,5 +1,5 @@
 -- `reach` takes the greatest of the entries' ends. Assumes nothing.
-use Rattle.laws.proofs.Prelude.{◌-◌, rules, highest_more, highest_none}
+use Rattle.laws.proofs.Prelude.{rules, highest_more, highest_none}
 use Rattle.view.proofs.Etypes.{end_fits, reach_is}
 use Rattle.view.proofs.Etype.reach.Goals as goal
 
