@@ -7,12 +7,12 @@ use std::io::Write;
 use view::{Named, View};
 
 // Prints a text.
-fn say<W: Write>(out: &mut W, text: &[u8]) -> io::Result<()> {
+fn say(out: &mut impl Write, text: &[u8]) -> io::Result<()> {
     out.write_all(text)
 }
 
 // Prints a text and a number after it.
-fn tell<W: Write>(out: &mut W, text: &[u8], n: u64) -> io::Result<()> {
+fn tell(out: &mut impl Write, text: &[u8], n: u64) -> io::Result<()> {
     out.write_all(text)?;
     write!(out, "{n}")
 }
@@ -35,7 +35,7 @@ const RECIPE_LOWER_BOUND: u64 = 32;
 const RECIPE_ROOM: u64 = 33;
 
 // The rules of recipes, a part of the table below.
-fn print_recipe_rule<W: Write>(out: &mut W, refusal: u64) -> io::Result<()> {
+fn print_recipe_rule(out: &mut impl Write, refusal: u64) -> io::Result<()> {
     match refusal {
         RECIPE_STEPS => say(out, b"the recipe has not 1 to 32 steps"),
         RECIPE_NAME => say(
@@ -59,7 +59,7 @@ fn print_recipe_rule<W: Write>(out: &mut W, refusal: u64) -> io::Result<()> {
 }
 
 // The table of rules: prints the rule that a refusal number stands for, and nothing for 0, a granted call.
-pub fn print_rule<W: Write>(out: &mut W, refusal: u64) -> io::Result<()> {
+pub fn print_rule(out: &mut impl Write, refusal: u64) -> io::Result<()> {
     match refusal {
         0 => Ok(()),
         View::REFUSED_HANDLE => say(
@@ -103,7 +103,7 @@ pub fn print_rule<W: Write>(out: &mut W, refusal: u64) -> io::Result<()> {
 }
 
 // Prints the refusal of any call: its number, and the rule. A granted call has just the number, 0.
-pub fn print_number_and_rule<W: Write>(out: &mut W, refusal: u64) -> io::Result<()> {
+pub fn print_number_and_rule(out: &mut impl Write, refusal: u64) -> io::Result<()> {
     tell(out, b"refusal ", refusal)?;
     if refusal != 0 {
         say(out, b", ")?;
@@ -113,13 +113,13 @@ pub fn print_number_and_rule<W: Write>(out: &mut W, refusal: u64) -> io::Result<
 }
 
 // Prints a signed number.
-fn print_signed<W: Write>(out: &mut W, x: i64) -> io::Result<()> {
+fn print_signed(out: &mut impl Write, x: i64) -> io::Result<()> {
     write!(out, "{x}")
 }
 
 // Prints an entry's number after a text, and its width and displacement where the lists have that entry.
-fn print_entry<W: Write>(
-    out: &mut W,
+fn print_entry(
+    out: &mut impl Write,
     text: &[u8],
     entry: u64,
     ws: &[u64],
@@ -139,8 +139,8 @@ fn print_entry<W: Write>(
 
 // Prints the refusal of a set in full: its number, the rule, and the entry that it names in the lists set. A granted set has just the number, 0.
 // `ew` and `ed` are the etype's widths and displacements, `fw` and `fd` the filetype's.
-pub fn print_refusal<W: Write>(
-    out: &mut W,
+pub fn print_refusal(
+    out: &mut impl Write,
     refusal: u64,
     named: Named,
     ew: &[u64],
