@@ -67,10 +67,8 @@ pub fn print_lines(
 {
     let mut text = [0u8; TEXT_BYTES];
     let mut end = 0;
-    let mut i = 0;
-    while i < lines {
+    for i in 0..lines {
         end = put_line(&mut text, end, list, LINE_NUMBERS * i);
-        i += 1;
     }
     write(rt, &text[0..end])
 }

@@ -46,10 +46,8 @@ fn move_to_front(window: &mut [u8], start: usize, end: usize) -> usize
     ensures { result ≤ end }
 {
     let count = end - start;
-    let mut i = 0;
-    while i < count {
+    for i in 0..count {
         window[i] = window[start + i];
-        i += 1;
     }
     count
 }

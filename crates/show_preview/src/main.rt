@@ -21,11 +21,9 @@ fn show_places<'a>(
         return writeln!(out, "refusal 1");
     }
     write!(out, "places")?;
-    let mut o = 0;
-    while o < OFFSETS {
+    for o in 0..OFFSETS {
         let place = view_place::place_of(v, origins, view::to_offset(o));
         write!(out, " {}", place.0)?;
-        o += 1;
     }
     if size <= View::MAX_FILE_SIZE {
         let end = view_place::end_of(v, origins, size);

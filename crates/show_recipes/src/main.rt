@@ -43,11 +43,9 @@ fn print_typemap(
     widths: &[u64],
     displacements: &[i64],
 ) -> io::Result<()> {
-    let mut i = 0;
     say(out, b" ")?;
-    while i < entries {
+    for i in 0..entries {
         print_entry(out, i as usize, widths, displacements)?;
-        i += 1;
     }
     say(out, b"\n")
 }
@@ -83,11 +81,8 @@ fn show(out: &mut impl Write, steps: &[u64], items: &[u64]) -> io::Result<()> {
 fn put(steps: &mut [u64], i: usize, step: [u64; STEP_NUMBERS])
     requires { 6 * i + 6 ≤ length steps.old }
 {
-    let mut j = 0;
-    while j < STEP_NUMBERS {
-        let x = step[j];
-        steps[STEP_NUMBERS * i + j] = x;
-        j += 1;
+    for j in 0..STEP_NUMBERS {
+        steps[STEP_NUMBERS * i + j] = step[j];
     }
 }
 
@@ -108,11 +103,9 @@ fn set(out: &mut impl Write, es: &[u64], ei: &[u64], fs: &[u64], fi: &[u64]) -> 
 // Prints where the first offsets of a handle's view begin.
 fn print_places(out: &mut impl Write, h: Handle) -> io::Result<()> {
     say(out, b"  places")?;
-    let mut o = 0;
-    while o < OFFSETS {
+    for o in 0..OFFSETS {
         let asked = h.byte_offset(view::to_offset(o));
         tell(out, b" ", asked.place.0)?;
-        o += 1;
     }
     say(out, b"\n")
 }
@@ -124,11 +117,9 @@ fn wide(x: u8) -> u64 {
 
 // Prints bytes as numbers, on one line.
 fn print_row(out: &mut impl Write, bytes: &[u8]) -> io::Result<()> {
-    let mut i = 0;
     say(out, b" ")?;
-    while i < bytes.len() {
-        tell(out, b" ", wide(bytes[i]))?;
-        i += 1;
+    for x in bytes {
+        tell(out, b" ", wide(*x))?;
     }
     say(out, b"\n")
 }

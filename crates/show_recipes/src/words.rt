@@ -50,14 +50,12 @@ fn print_column(out: &mut impl Write, items: &[u64], j: usize) -> io::Result<()>
     requires { j < 3 }
 {
     let n = items.len() / ITEM_NUMBERS;
-    let mut i = 0;
     say(out, b", {")?;
-    while i < n {
+    for i in 0..n {
         if 0 < i {
             say(out, b", ")?;
         }
         print_signed(out, number(items, ITEM_NUMBERS * i + j))?;
-        i += 1;
     }
     say(out, b"}")
 }
@@ -161,14 +159,12 @@ pub fn print_steps(
     items: &[u64],
 ) -> io::Result<()> {
     let n = steps.len() / STEP_NUMBERS;
-    let mut i = 0;
-    while i < n {
+    for i in 0..n {
         let from = STEP_NUMBERS * i;
         let end = from + STEP_NUMBERS;
         tell(out, text, i as u64)?;
         say(out, b": ")?;
         print_step(out, &steps[from..end], items)?;
-        i += 1;
     }
     Ok(())
 }

@@ -35,10 +35,8 @@ fn wide(x: u8) -> u64 {
 // Prints bytes as numbers, after a text, on one line.
 fn list(out: &mut impl Write, text: &[u8], bytes: &[u8]) -> io::Result<()> {
     say(out, text)?;
-    let mut i = 0;
-    while i < bytes.len() {
-        tell(out, b" ", wide(bytes[i]))?;
-        i += 1;
+    for x in bytes {
+        tell(out, b" ", wide(*x))?;
     }
     say(out, b"\n")
 }

@@ -54,10 +54,8 @@ impl Line {
 // The checksum of a run that has these numbers more.
 fn feed_all(d: u64, s: &[u64]) -> u64 {
     let mut sum = d;
-    let mut i = 0;
-    while i < s.len() {
-        sum = checksum::feed(sum, s[i]);
-        i += 1;
+    for x in s {
+        sum = checksum::feed(sum, *x);
     }
     sum
 }
