@@ -2,8 +2,10 @@
 ghost use Rattle.std.specs.Prelude.{◌+◌, ◌≤◌, length};
 
 use crate::error;
-use libc::STDOUT_FILENO;
+use itoa::Buffer;
 use replay_run::LINE_NUMBERS;
+use std::alloc::AllocGlobal;
+use std::io::{Eprint, Print};
 
 // The most lines of a run, and how many numbers they have.
 pub const MOST_LINES: usize = 1024;
@@ -19,28 +21,17 @@ const TEXT_BYTES: usize = MOST_NUMBERS * (DIGITS + 1);
 // Where the number stands in the line of a stop.
 const STOP_PLACE: usize = 5;
 
-// A number, and `most` where it is above that.
-fn capped(n: usize, most: usize) -> usize
-    ensures { result ≤ most }
-{
-    if most < n { most } else { n }
-}
-
 // Puts a number and a byte after it into a text from a place on; the answer is the place after them.
 fn put_number(text: &mut [u8], at: usize, n: u64, after: u8) -> usize
     requires { at + 21 ≤ length text.old }
     ensures { result ≤ at + 21 }
 {
-    let mut digits = [0u8; DIGITS];
-    // No number has more digits: the cap changes nothing.
-    let count = capped(io::decimal(n, &mut digits), DIGITS);
-    let mut i = 0;
-    while i < count {
-        text[at + i] = digits[i];
-        i += 1;
-    }
-    text[at + i] = after;
-    at + i + 1
+    let mut buffer = Buffer::new();
+    let digits = buffer.format(n).as_bytes();
+    let end = at + digits.len();
+    text[at..end].copy_from_slice(digits);
+    text[end] = after;
+    end + 1
 }
 
 // Puts the line of five numbers of a list into a text from a place on; the answer is the place after it.
@@ -56,31 +47,35 @@ fn put_line(text: &mut [u8], at: usize, list: &[u64], i: usize) -> usize
 }
 
 // Writes a text to standard output; the answer is whether all of it was written. If not, the reason is said.
-fn write(text: &[u8]) -> bool {
-    let written = io::write_all(STDOUT_FILENO, text);
-    if !written {
-        error::fail(b"standard output");
+fn write(rt: &(impl Print + Eprint + AllocGlobal), text: &[u8]) -> bool {
+    match rt.write_all(text) {
+        Ok(()) => true,
+        Err(e) => {
+            error::fail(rt, "standard output", e);
+            false
+        }
     }
-    written
 }
 
 // Prints the lines of a run; the answer is whether all of them were written.
-pub fn print_lines(list: &[u64; MOST_NUMBERS], lines: usize) -> bool
+pub fn print_lines(
+    rt: &(impl Print + Eprint + AllocGlobal),
+    list: &[u64; MOST_NUMBERS],
+    lines: usize,
+) -> bool
     requires { lines ≤ 1024 }
 {
     let mut text = [0u8; TEXT_BYTES];
     let mut end = 0;
-    let mut i = 0;
-    while i < lines {
+    for i in 0..lines {
         end = put_line(&mut text, end, list, LINE_NUMBERS * i);
-        i += 1;
     }
-    write(&text[0..end])
+    write(rt, &text[0..end])
 }
 
 // Prints the line of a stop.
-pub fn print_stop(place: u64) {
+pub fn print_stop(rt: &(impl Print + Eprint + AllocGlobal), place: u64) {
     let mut text = *b"stop 00000000000000000000\n";
     let end = put_number(&mut text, STOP_PLACE, place, b'\n');
-    write(&text[0..end]);
+    write(rt, &text[0..end]);
 }

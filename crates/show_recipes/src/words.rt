@@ -1,34 +1,29 @@
 // A recipe in words: each step as the MPI call that it stands for.
 ghost use Rattle.std.specs.Prelude.{◌<◌};
 
-use libc::STDOUT_FILENO;
+use std::io;
+use std::io::Write;
 
 // How many numbers a step and an item have.
 pub const STEP_NUMBERS: usize = 6;
 
 const ITEM_NUMBERS: usize = 3;
 
-// 2^63, from which on two's complement reads a negative number.
-const HALF: u64 = 9223372036854775808;
-
 // Prints a text.
-pub fn say(text: &[u8]) {
-    io::write_all(STDOUT_FILENO, text);
+pub fn say(out: &mut impl Write, text: &[u8]) -> io::Result<()> {
+    out.write_all(text)
 }
 
 // Prints a text and a number after it.
-pub fn tell(text: &[u8], n: u64) {
-    io::write_all(STDOUT_FILENO, text);
-    io::print_decimal(STDOUT_FILENO, n);
+pub fn tell(out: &mut impl Write, text: &[u8], n: u64) -> io::Result<()> {
+    out.write_all(text)?;
+    write!(out, "{n}")
 }
 
-// Prints a signed number of a recipe.
-fn print_signed(x: u64) {
-    if x < HALF {
-        io::print_decimal(STDOUT_FILENO, x);
-    } else {
-        tell(b"-", std::num::wrapping_sub_u64(0, x));
-    }
+// Prints a signed number of a recipe, which stands there in two's complement.
+fn print_signed(out: &mut impl Write, x: u64) -> io::Result<()> {
+    let number = x.cast_signed();
+    write!(out, "{number}")
 }
 
 // Number `i` of a list, 0 past its end.
@@ -51,104 +46,125 @@ fn items_of(items: &[u64], first: u64, n: u64) -> &[u64] {
 }
 
 // Prints number `j` of each item, in braces.
-fn print_column(items: &[u64], j: usize)
+fn print_column(out: &mut impl Write, items: &[u64], j: usize) -> io::Result<()>
     requires { j < 3 }
 {
     let n = items.len() / ITEM_NUMBERS;
-    let mut i = 0;
-    say(b", {");
-    while i < n {
+    say(out, b", {")?;
+    for i in 0..n {
         if 0 < i {
-            say(b", ");
+            say(out, b", ")?;
         }
-        print_signed(number(items, ITEM_NUMBERS * i + j));
-        i += 1;
+        print_signed(out, number(items, ITEM_NUMBERS * i + j))?;
     }
-    say(b"}");
+    say(out, b"}")
 }
 
 // Prints what a step is built of.
-fn print_source(source: u64, name: u64) {
+fn print_source(out: &mut impl Write, source: u64, name: u64) -> io::Result<()> {
     if source == recipe::STEP {
-        tell(b"step ", name);
+        tell(out, b"step ", name)
     } else {
-        tell(b"width ", name);
+        tell(out, b"width ", name)
     }
 }
 
 // Prints the last argument of a call, what the step is built of.
-fn print_last(source: u64, name: u64) {
-    say(b", ");
-    print_source(source, name);
-    say(b")\n");
+fn print_last(out: &mut impl Write, source: u64, name: u64) -> io::Result<()> {
+    say(out, b", ")?;
+    print_source(out, source, name)?;
+    say(out, b")\n")
 }
 
-fn print_contiguous(source: u64, name: u64, count: u64) {
-    tell(b"MPI_Type_contiguous(", count);
-    print_last(source, name);
+fn print_contiguous(out: &mut impl Write, source: u64, name: u64, count: u64) -> io::Result<()> {
+    tell(out, b"MPI_Type_contiguous(", count)?;
+    print_last(out, source, name)
 }
 
-fn print_vector(source: u64, name: u64, count: u64, length: u64, stride: u64) {
-    tell(b"MPI_Type_vector(", count);
-    tell(b", ", length);
-    say(b", ");
-    print_signed(stride);
-    print_last(source, name);
+fn print_vector(
+    out: &mut impl Write,
+    source: u64,
+    name: u64,
+    count: u64,
+    length: u64,
+    stride: u64,
+) -> io::Result<()> {
+    tell(out, b"MPI_Type_vector(", count)?;
+    tell(out, b", ", length)?;
+    say(out, b", ")?;
+    print_signed(out, stride)?;
+    print_last(out, source, name)
 }
 
 // Count, block lengths and displacements.
-fn print_indexed(source: u64, name: u64, blocks: u64, items: &[u64]) {
-    tell(b"MPI_Type_indexed(", blocks);
-    print_column(items, 0);
-    print_column(items, 1);
-    print_last(source, name);
+fn print_indexed(
+    out: &mut impl Write,
+    source: u64,
+    name: u64,
+    blocks: u64,
+    items: &[u64],
+) -> io::Result<()> {
+    tell(out, b"MPI_Type_indexed(", blocks)?;
+    print_column(out, items, 0)?;
+    print_column(out, items, 1)?;
+    print_last(out, source, name)
 }
 
 // Number of dimensions, sizes, subsizes and starts.
-fn print_subarray(source: u64, name: u64, dimensions: u64, items: &[u64]) {
-    tell(b"MPI_Type_create_subarray(", dimensions);
-    print_column(items, 0);
-    print_column(items, 1);
-    print_column(items, 2);
-    say(b", MPI_ORDER_C");
-    print_last(source, name);
+fn print_subarray(
+    out: &mut impl Write,
+    source: u64,
+    name: u64,
+    dimensions: u64,
+    items: &[u64],
+) -> io::Result<()> {
+    tell(out, b"MPI_Type_create_subarray(", dimensions)?;
+    print_column(out, items, 0)?;
+    print_column(out, items, 1)?;
+    print_column(out, items, 2)?;
+    say(out, b", MPI_ORDER_C")?;
+    print_last(out, source, name)
 }
 
-fn print_resized(source: u64, name: u64, extent: u64) {
-    say(b"MPI_Type_create_resized(");
-    print_source(source, name);
-    say(b", 0, ");
-    print_signed(extent);
-    say(b")\n");
+fn print_resized(out: &mut impl Write, source: u64, name: u64, extent: u64) -> io::Result<()> {
+    say(out, b"MPI_Type_create_resized(")?;
+    print_source(out, source, name)?;
+    say(out, b", 0, ")?;
+    print_signed(out, extent)?;
+    say(out, b")\n")
 }
 
 // Prints the step whose six numbers these are.
-fn print_step(step: &[u64], items: &[u64]) {
+fn print_step(out: &mut impl Write, step: &[u64], items: &[u64]) -> io::Result<()> {
     let source = number(step, 1);
     let name = number(step, 2);
     let a = number(step, 3);
     let b = number(step, 4);
     let c = number(step, 5);
     match number(step, 0) {
-        recipe::CONTIGUOUS => print_contiguous(source, name, a),
-        recipe::VECTOR => print_vector(source, name, a, b, c),
-        recipe::INDEXED => print_indexed(source, name, b, items_of(items, a, b)),
-        recipe::SUBARRAY => print_subarray(source, name, b, items_of(items, a, b)),
-        recipe::RESIZED => print_resized(source, name, a),
-        _ => say(b"no constructor\n"),
+        recipe::CONTIGUOUS => print_contiguous(out, source, name, a),
+        recipe::VECTOR => print_vector(out, source, name, a, b, c),
+        recipe::INDEXED => print_indexed(out, source, name, b, items_of(items, a, b)),
+        recipe::SUBARRAY => print_subarray(out, source, name, b, items_of(items, a, b)),
+        recipe::RESIZED => print_resized(out, source, name, a),
+        _ => say(out, b"no constructor\n"),
     }
 }
 
 // Prints a recipe, a line for each step; each line begins with a text and the step's number.
-pub fn print_steps(text: &[u8], steps: &[u64], items: &[u64]) {
+pub fn print_steps(
+    out: &mut impl Write,
+    text: &[u8],
+    steps: &[u64],
+    items: &[u64],
+) -> io::Result<()> {
     let n = steps.len() / STEP_NUMBERS;
-    let mut i = 0;
-    while i < n {
+    for i in 0..n {
         let from = STEP_NUMBERS * i;
         let end = from + STEP_NUMBERS;
-        tell(text, i as u64);
-        say(b": ");
-        print_step(&steps[from..end], items);
-        i += 1;
+        tell(out, text, i as u64)?;
+        say(out, b": ")?;
+        print_step(out, &steps[from..end], items)?;
     }
+    Ok(())
 }

@@ -1,19 +1,20 @@
 //! Refusals in plain words, for people: the rule that each number stands for; of a refused set also the type, the entry and its width and displacement.
-//! It prints, and answers nothing.
+//! It prints to the writer that it is lent, and answers only whether that failed.
 #![tactic(auto)]
 
-use libc::STDOUT_FILENO;
+use std::io;
+use std::io::Write;
 use view::{Named, View};
 
 // Prints a text.
-fn say(text: &[u8]) {
-    io::write_all(STDOUT_FILENO, text);
+fn say(out: &mut impl Write, text: &[u8]) -> io::Result<()> {
+    out.write_all(text)
 }
 
 // Prints a text and a number after it.
-fn tell(text: &[u8], n: u64) {
-    io::write_all(STDOUT_FILENO, text);
-    io::print_decimal(STDOUT_FILENO, n);
+fn tell(out: &mut impl Write, text: &[u8], n: u64) -> io::Result<()> {
+    out.write_all(text)?;
+    write!(out, "{n}")
 }
 
 // The refusal numbers of a recipe (docs/recipes.md).
@@ -34,100 +35,126 @@ const RECIPE_LOWER_BOUND: u64 = 32;
 const RECIPE_ROOM: u64 = 33;
 
 // The rules of recipes, a part of the table below.
-fn print_recipe_rule(refusal: u64) {
+fn print_recipe_rule(out: &mut impl Write, refusal: u64) -> io::Result<()> {
     match refusal {
-        RECIPE_STEPS => say(b"the recipe has not 1 to 32 steps"),
-        RECIPE_NAME => say(b"the step names neither an earlier step nor a basic width"),
-        RECIPE_ZERO => say(b"a count, block length or subsize is 0"),
+        RECIPE_STEPS => say(out, b"the recipe has not 1 to 32 steps"),
+        RECIPE_NAME => say(
+            out,
+            b"the step names neither an earlier step nor a basic width",
+        ),
+        RECIPE_ZERO => say(out, b"a count, block length or subsize is 0"),
         RECIPE_DIMENSIONS => say(
+            out,
             b"a subarray has not 1 to 4 dimensions, or is not inside its array",
         ),
-        RECIPE_ENTRIES => say(b"the step has more than 256 entries"),
-        RECIPE_LIMITS => say(b"an entry displacement or the extent is out of range"),
-        RECIPE_LOWER_BOUND => say(b"the last step's lower bound is not 0"),
-        RECIPE_ROOM => say(b"a lent list is shorter than the last step's entry count"),
-        _ => say(b"no rule has this number"),
+        RECIPE_ENTRIES => say(out, b"the step has more than 256 entries"),
+        RECIPE_LIMITS => say(out, b"an entry displacement or the extent is out of range"),
+        RECIPE_LOWER_BOUND => say(out, b"the last step's lower bound is not 0"),
+        RECIPE_ROOM => say(
+            out,
+            b"a lent list is shorter than the last step's entry count",
+        ),
+        _ => say(out, b"no rule has this number"),
     }
 }
 
 // The table of rules: prints the rule that a refusal number stands for, and nothing for 0, a granted call.
-pub fn print_rule(refusal: u64) {
+pub fn print_rule(out: &mut impl Write, refusal: u64) -> io::Result<()> {
     match refusal {
-        0 => {}
+        0 => Ok(()),
         View::REFUSED_HANDLE => say(
+            out,
             b"the handle's mode is not 1 to 3, its pointer or view breaks a rule, or the file breaks its limits",
         ),
-        View::REFUSED_REPRESENTATION => say(b"the representation is not native"),
-        View::REFUSED_DISPLACEMENT => say(b"the view displacement is out of range"),
+        View::REFUSED_REPRESENTATION => say(out, b"the representation is not native"),
+        View::REFUSED_DISPLACEMENT => say(out, b"the view displacement is out of range"),
         View::REFUSED_ENTRY_COUNT => say(
+            out,
             b"a type's two lists differ in length, or an entry count is not allowed",
         ),
-        View::REFUSED_EXTENT => say(b"an extent is out of range"),
-        View::REFUSED_ENTRY => say(b"a width or entry displacement is not allowed"),
-        View::REFUSED_ORDER => say(b"displacements decrease"),
-        View::REFUSED_HOLE => say(b"a hole is no multiple of the etype's extent"),
+        View::REFUSED_EXTENT => say(out, b"an extent is out of range"),
+        View::REFUSED_ENTRY => say(out, b"a width or entry displacement is not allowed"),
+        View::REFUSED_ORDER => say(out, b"displacements decrease"),
+        View::REFUSED_HOLE => say(out, b"a hole is no multiple of the etype's extent"),
         View::REFUSED_OVERLAP => say(
+            out,
             b"two data bytes lie at one place or a multiple of the filetype's extent apart, and the mode allows writing",
         ),
         View::REFUSED_MODE => say(
+            out,
             b"a read in a mode without reading, or a write or reverse lookup in one without writing",
         ),
-        View::REFUSED_RANGE => say(b"an offset, offset plus count or seek target is out of range"),
-        View::REFUSED_ROOM => say(b"the buffer or a list is too short"),
-        View::REFUSED_LENGTH => say(b"a write's highest byte is at or past the file length"),
-        View::REFUSED_WHENCE => say(b"whence is not 0, 1 or 2"),
-        View::REFUSED_OPEN_MODE => say(b"open with a mode above 3"),
+        View::REFUSED_RANGE => say(
+            out,
+            b"an offset, offset plus count or seek target is out of range",
+        ),
+        View::REFUSED_ROOM => say(out, b"the buffer or a list is too short"),
+        View::REFUSED_LENGTH => say(out, b"a write's highest byte is at or past the file length"),
+        View::REFUSED_WHENCE => say(out, b"whence is not 0, 1 or 2"),
+        View::REFUSED_OPEN_MODE => say(out, b"open with a mode above 3"),
         View::REFUSED_WHOLE_GROUPS => say(
+            out,
             b"the number of filetype entries is no multiple of the etype's",
         ),
-        View::REFUSED_GROUP => say(b"a group of the filetype differs from the etype"),
-        View::REFUSED_ORIGIN => say(b"an origin is below zero"),
-        _ => print_recipe_rule(refusal),
+        View::REFUSED_GROUP => say(out, b"a group of the filetype differs from the etype"),
+        View::REFUSED_ORIGIN => say(out, b"an origin is below zero"),
+        _ => print_recipe_rule(out, refusal),
     }
 }
 
 // Prints the refusal of any call: its number, and the rule. A granted call has just the number, 0.
-pub fn print_number_and_rule(refusal: u64) {
-    tell(b"refusal ", refusal);
+pub fn print_number_and_rule(out: &mut impl Write, refusal: u64) -> io::Result<()> {
+    tell(out, b"refusal ", refusal)?;
     if refusal != 0 {
-        say(b", ");
-        print_rule(refusal);
+        say(out, b", ")?;
+        print_rule(out, refusal)?;
     }
+    Ok(())
 }
 
-// Prints a signed number. A negative one lies one more than -1 - x below 0, and -1 - x is !x, which the smallest one has too; the sum does not wrap.
-fn print_signed(x: i64) {
-    if x < 0 {
-        let less_one = view::natural(!x);
-        tell(b"-", std::num::wrapping_add_u64(less_one, 1));
-    } else {
-        io::print_decimal(STDOUT_FILENO, view::natural(x));
-    }
+// Prints a signed number.
+fn print_signed(out: &mut impl Write, x: i64) -> io::Result<()> {
+    write!(out, "{x}")
 }
 
 // Prints an entry's number after a text, and its width and displacement where the lists have that entry.
-fn print_entry(text: &[u8], entry: u64, ws: &[u64], ds: &[i64]) {
-    tell(text, entry);
+fn print_entry(
+    out: &mut impl Write,
+    text: &[u8],
+    entry: u64,
+    ws: &[u64],
+    ds: &[i64],
+) -> io::Result<()> {
+    tell(out, text, entry)?;
     let i = entry as usize;
     if i < ws.len() {
         if i < ds.len() {
-            tell(b", width ", ws[i]);
-            say(b" at ");
-            print_signed(ds[i]);
+            tell(out, b", width ", ws[i])?;
+            say(out, b" at ")?;
+            print_signed(out, ds[i])?;
         }
     }
+    Ok(())
 }
 
 // Prints the refusal of a set in full: its number, the rule, and the entry that it names in the lists set. A granted set has just the number, 0.
 // `ew` and `ed` are the etype's widths and displacements, `fw` and `fd` the filetype's.
-pub fn print_refusal(refusal: u64, named: Named, ew: &[u64], ed: &[i64], fw: &[u64], fd: &[i64]) {
-    print_number_and_rule(refusal);
+pub fn print_refusal(
+    out: &mut impl Write,
+    refusal: u64,
+    named: Named,
+    ew: &[u64],
+    ed: &[i64],
+    fw: &[u64],
+    fd: &[i64],
+) -> io::Result<()> {
+    print_number_and_rule(out, refusal)?;
     if refusal == 0 {
-        return;
+        return Ok(());
     }
     match named {
-        Named::Nothing => {}
-        Named::EtypeEntry(i) => print_entry(b": etype entry ", i, ew, ed),
-        Named::FiletypeEntry(i) => print_entry(b": filetype entry ", i, fw, fd),
+        Named::Nothing => Ok(()),
+        Named::EtypeEntry(i) => print_entry(out, b": etype entry ", i, ew, ed),
+        Named::FiletypeEntry(i) => print_entry(out, b": filetype entry ", i, fw, fd),
     }
 }

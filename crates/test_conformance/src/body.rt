@@ -59,10 +59,7 @@ fn seeded_byte(seed: u64, i: usize) -> u8 {
 
 // Makes all bytes of a file or a buffer of a seed.
 pub fn fill(seed: u64, bytes: &mut [u8]) {
-    let mut i = 0;
-    while i < bytes.len() {
-        let b = seeded_byte(seed, i);
-        bytes[i] = b;
-        i += 1;
+    for i in 0..bytes.len() {
+        bytes[i] = seeded_byte(seed, i);
     }
 }

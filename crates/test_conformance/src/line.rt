@@ -1,6 +1,7 @@
 // The line of a record: its numbers, the checksum of a handle, and printing (docs/conformance.md).
 use file::{FileRecord, Handle, SetViewAnswer};
-use libc::STDOUT_FILENO;
+use std::io;
+use std::io::Write;
 
 // What the line of a call says: refusal, count and the other numbers of the answer, its handle and file record, and checksums of what the call was lent.
 #[derive(Clone, Copy)]
@@ -53,10 +54,8 @@ impl Line {
 // The checksum of a run that has these numbers more.
 fn feed_all(d: u64, s: &[u64]) -> u64 {
     let mut sum = d;
-    let mut i = 0;
-    while i < s.len() {
-        sum = checksum::feed(sum, s[i]);
-        i += 1;
+    for x in s {
+        sum = checksum::feed(sum, *x);
     }
     sum
 }
@@ -90,54 +89,62 @@ pub fn list_sums(ew: &[u64], ed: &[i64], fw: &[u64], fd: &[i64]) -> [u64; 4] {
 }
 
 // Prints numbers, with a space before each.
-fn print_numbers(numbers: &[u64]) {
-    let mut i = 0;
-    while i < numbers.len() {
-        io::write_all(STDOUT_FILENO, b" ");
-        io::print_decimal(STDOUT_FILENO, numbers[i]);
-        i += 1;
+fn print_numbers(out: &mut impl Write, numbers: &[u64]) -> io::Result<()> {
+    for x in numbers {
+        write!(out, " {x}")?;
     }
+    Ok(())
 }
 
 // Prints a line of these parts: refusal, count and the other numbers; pointer and checksum of the handle; size and checksum of each file; the checksums of what was lent.
-fn print_parts(tag: u8, answer: [u64; 7], handle: [u64; 2], files: [u64; 4], sums: [u64; 4]) {
-    io::print_decimal(STDOUT_FILENO, tag as u64);
-    print_numbers(&answer);
-    print_numbers(&handle);
-    print_numbers(&files);
-    print_numbers(&sums);
-    io::write_all(STDOUT_FILENO, b"\n");
+fn print_parts(
+    out: &mut impl Write,
+    tag: u8,
+    answer: [u64; 7],
+    handle: [u64; 2],
+    files: [u64; 4],
+    sums: [u64; 4],
+) -> io::Result<()> {
+    write!(out, "{tag}")?;
+    print_numbers(out, &answer)?;
+    print_numbers(out, &handle)?;
+    print_numbers(out, &files)?;
+    print_numbers(out, &sums)?;
+    writeln!(out)
 }
 
 // Prints the line of a record that makes a call.
-pub fn print_call(tag: u8, l: Line, files: [u64; 4]) {
+pub fn print_call(out: &mut impl Write, tag: u8, l: Line, files: [u64; 4]) -> io::Result<()> {
     let o = l.others;
     let answer = [l.refusal, l.count, o[0], o[1], o[2], o[3], o[4]];
     let handle = l.handle;
     let sum = handle_sum(handle);
     let sums = l.sums;
-    print_parts(tag, answer, [handle.pointer, sum], files, sums);
+    print_parts(out, tag, answer, [handle.pointer, sum], files, sums)
 }
 
 // Prints the line of a recipe, which has no handle.
-pub fn print_recipe(tag: u8, l: RecipeLine, files: [u64; 4]) {
+pub fn print_recipe(
+    out: &mut impl Write,
+    tag: u8,
+    l: RecipeLine,
+    files: [u64; 4],
+) -> io::Result<()> {
     let o = l.others;
     let answer = [l.refusal, 0, o[0], o[1], o[2], o[3], 0];
     let sums = l.sums;
-    print_parts(tag, answer, [0u64; 2], files, [sums[0], sums[1], 0, 0]);
+    print_parts(out, tag, answer, [0u64; 2], files, [sums[0], sums[1], 0, 0])
 }
 
 // Prints the line of a record that makes no call.
-pub fn print_file(tag: u8, files: [u64; 4]) {
-    print_parts(tag, [0u64; 7], [0u64; 2], files, [0u64; 4]);
+pub fn print_file(out: &mut impl Write, tag: u8, files: [u64; 4]) -> io::Result<()> {
+    print_parts(out, tag, [0u64; 7], [0u64; 2], files, [0u64; 4])
 }
 
 // Ends a run at a record that is cut short or of another tag: prints its byte place. Nothing where the script ends.
-pub fn print_stop(place: u64, header: usize) {
+pub fn print_stop(out: &mut impl Write, place: u64, header: usize) -> io::Result<()> {
     if header == 0 {
-        return;
+        return Ok(());
     }
-    io::write_all(STDOUT_FILENO, b"stop ");
-    io::print_decimal(STDOUT_FILENO, place);
-    io::write_all(STDOUT_FILENO, b"\n");
+    writeln!(out, "stop {place}")
 }

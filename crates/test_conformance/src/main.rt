@@ -6,12 +6,13 @@ mod line;
 mod recipes;
 mod record;
 
-ghost use Rattle.std.specs.Prelude.{◌≡◌, ◌*◌, ◌≤◌, ◌<◌, length};
+ghost use Rattle.std.specs.Prelude.{◌≡◌, ◌*◌, ◌≤◌, ◌<◌, length, IfOk};
 
 use body::{capped, file_at, length_at, slot_of};
 use file::{FileRecord, Handle};
-use libc::STDIN_FILENO;
 use line::Line;
+use std::io;
+use std::io::{BufReader, BufWriter, Input, Read, Write};
 use tagged_fields::Field;
 
 // At most this many records are taken.
@@ -43,28 +44,43 @@ struct Driver {
     lengths: [u64; 2],
 }
 
-// Reads a record to the front of `buf`.
-fn read_record(buf: &mut [u8]) -> Found
-    requires { length buf.old ≡ 65538 }
-    ensures { result.length ≤ 65535 }
+// Reads until a buffer is full or the input ends; the answer is how many bytes were put at its front.
+fn read_full(input: &mut impl Read, buf: &mut [u8]) -> io::Result<usize>
+    ensures { IfOk result (λ count. count ≤ length buf.new) }
 {
-    let header = io::read_full(STDIN_FILENO, &mut buf[0..Field::HEADER_BYTES]);
+    let mut count = 0;
+    while count < buf.len() {
+        let got = input.read(&mut buf[count..])?;
+        if got == 0 {
+            break;
+        }
+        count += got;
+    }
+    Ok(count)
+}
+
+// Reads a record to the front of `buf`.
+fn read_record(input: &mut impl Read, buf: &mut [u8]) -> io::Result<Found>
+    requires { length buf.old ≡ 65538 }
+    ensures { IfOk result (λ found. found.length ≤ 65535) }
+{
+    let header = read_full(input, &mut buf[0..Field::HEADER_BYTES])?;
     if header < Field::HEADER_BYTES {
-        return Found {
+        return Ok(Found {
             header: header,
             length: 0,
             whole: false,
-        };
+        });
     }
     // Two bytes, as a number whose other bytes are 0: the cap changes nothing.
     let length = length_at(&buf[1..Field::HEADER_BYTES], 0, LONGEST_BODY);
     let end = Field::HEADER_BYTES + length;
-    let got = io::read_full(STDIN_FILENO, &mut buf[Field::HEADER_BYTES..end]);
-    Found {
+    let got = read_full(input, &mut buf[Field::HEADER_BYTES..end])?;
+    Ok(Found {
         header: header,
         length: length,
         whole: record::known(buf[0]) && got == length,
-    }
+    })
 }
 
 // Where the bytes of a file end in the array of both files; they begin at its number times the longest file.
@@ -161,40 +177,55 @@ impl Driver {
     }
 
     // Does what a record says and prints its line.
-    fn step(self, tag: u8, body: &[u8], bytes: &mut [u8]) -> Driver
+    fn step(
+        self,
+        out: &mut impl Write,
+        tag: u8,
+        body: &[u8],
+        bytes: &mut [u8],
+    ) -> io::Result<Driver>
         requires { length bytes.old ≡ 131072 }
     {
         if tag <= record::FILE_RECORD {
             let made = self.make_file(tag, body, bytes);
-            line::print_file(tag, made.files(bytes));
-            return made;
+            line::print_file(out, tag, made.files(bytes))?;
+            return Ok(made);
         }
         if tag == record::RECIPE {
-            line::print_recipe(tag, recipes::flatten(body), self.files(bytes));
-            return self;
+            line::print_recipe(out, tag, recipes::flatten(body), self.files(bytes))?;
+            return Ok(self);
         }
         let answer = self.call(tag, body, bytes);
         let after = self.answered(body, answer);
-        line::print_call(tag, answer, after.files(bytes));
-        after
+        line::print_call(out, tag, answer, after.files(bytes))?;
+        Ok(after)
     }
 }
 
-fn main() {
+// Makes the calls of a script and prints their lines.
+fn run(input: &mut impl Read, out: &mut impl Write) -> io::Result<()> {
     let mut driver = Driver::new();
     let mut bytes = [0u8; BOTH_FILES];
     let mut buf = [0u8; LONGEST_RECORD];
     let mut place = 0;
     let mut left = MOST_RECORDS;
     while 0 < left {
-        let found = read_record(&mut buf);
+        let found = read_record(input, &mut buf)?;
         if !found.whole {
-            line::print_stop(place, found.header);
-            return;
+            return line::print_stop(out, place, found.header);
         }
         let end = Field::HEADER_BYTES + found.length;
-        driver = driver.step(buf[0], &buf[Field::HEADER_BYTES..end], &mut bytes);
+        let body = &buf[Field::HEADER_BYTES..end];
+        driver = driver.step(out, buf[0], body, &mut bytes)?;
         place += end as u64;
         left -= 1;
     }
+    Ok(())
+}
+
+fn main(rt: HostRuntime) -> io::Result<()> {
+    let mut input = BufReader::new(rt.alloc(), rt.reader())?;
+    let mut out = BufWriter::new(rt.alloc(), io::writer(&rt))?;
+    run(&mut input, &mut out)?;
+    out.flush()
 }
