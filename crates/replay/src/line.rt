@@ -5,7 +5,7 @@ use crate::error;
 use itoa::Buffer;
 use replay_run::LINE_NUMBERS;
 use std::alloc::AllocGlobal;
-use std::io::{Eprint, Print};
+use std::io::{Eprint, ErrorKind, Print};
 
 // The most lines of a run, and how many numbers they have.
 pub const MOST_LINES: usize = 1024;
@@ -46,12 +46,14 @@ fn put_line(text: &mut [u8], at: usize, list: &[u64], i: usize) -> usize
     put_number(text, size, list[i + 4], b'\n')
 }
 
-// Writes a text to standard output; the answer is whether all of it was written. If not, the reason is said.
+// Writes a text to standard output; the answer is whether all of it was written. If not, the reason is said, but for a pipe that nobody reads any more.
 fn write(rt: &(impl Print + Eprint + AllocGlobal), text: &[u8]) -> bool {
     match rt.write_all(text) {
         Ok(()) => true,
         Err(e) => {
-            error::fail(rt, "standard output", e);
+            if e.kind() != ErrorKind::BrokenPipe {
+                error::fail(rt, "standard output", e);
+            }
             false
         }
     }
