@@ -1,6 +1,7 @@
 pub mod Numbers
 pub mod Building
 pub mod Standard
+pub mod Longer
 pub mod Integers
 pub mod Extremes
 pub mod Bounds

@@ -39,7 +39,7 @@ resized_count x t = refl
 -- ---- two constructors that make the same type
 
 -- as many copies at the same places are the same type
-copies_same : (m n : ℕ) (f g : ℕ → ℤ) (t : Typemap) → m ≡ n → ((k : ℕ) → k < n → f k ≡ g k) → copies m f t ≡ copies n g t
+pub copies_same : (m n : ℕ) (f g : ℕ → ℤ) (t : Typemap) → m ≡ n → ((k : ℕ) → k < n → f k ≡ g k) → copies m f t ≡ copies n g t
 unfolding copies
 copies_same m n f g t e h =
     let a = joined_same (λ k. map (shifted (f k *ℤ extent t)) t.entries) (λ k. map (shifted (g k *ℤ extent t)) t.entries) n (λ k l. ap (λ p. map (shifted (p *ℤ extent t)) t.entries) (h k l)) in
@@ -99,7 +99,7 @@ bounded_lower_bound : (x : ℤ) (t : Typemap) → lower_bound (bounded x t) ≡ 
 unfolding lower_bound least markers_else bounded
 bounded_lower_bound x t = refl
 
-bounded_extent : (x : ℤ) (t : Typemap) → extent (bounded x t) ≡ x
+pub bounded_extent : (x : ℤ) (t : Typemap) → extent (bounded x t) ≡ x
 unfolding extent lower_bound upper_bound least greatest_of markers_else bounded
 bounded_extent x t = +ℤ_idr x
 
