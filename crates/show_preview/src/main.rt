@@ -2,7 +2,7 @@
 #![tactic(auto)]
 
 use std::io;
-use std::io::{BufWriter, Write};
+use std::io::Write;
 use view::{Numbers, PerEntry, PerInstance, View};
 
 const OFFSETS: u64 = 6;
@@ -173,9 +173,8 @@ fn other_rules(out: &mut impl Write) -> io::Result<()> {
 }
 
 fn main(rt: HostRuntime) -> io::Result<()> {
-    let mut out = BufWriter::new(rt.alloc(), io::writer(&rt))?;
+    let mut out = io::writer(&rt);
     figures(&mut out)?;
     clashes(&mut out)?;
-    other_rules(&mut out)?;
-    out.flush()
+    other_rules(&mut out)
 }

@@ -9,7 +9,7 @@ ghost use Rattle.std.specs.Prelude.{◌+◌, ◌*◌, ◌≤◌, length};
 use file::{FileRecord, Handle};
 use recipe::FaultyStep;
 use std::io;
-use std::io::{BufWriter, Write};
+use std::io::Write;
 use view::Offset;
 use words::{STEP_NUMBERS, say, tell};
 
@@ -230,7 +230,7 @@ fn set_falling(out: &mut impl Write) -> io::Result<()> {
 }
 
 fn main(rt: HostRuntime) -> io::Result<()> {
-    let mut out = BufWriter::new(rt.alloc(), io::writer(&rt))?;
+    let mut out = io::writer(&rt);
     contiguous(&mut out)?;
     vector(&mut out)?;
     indexed(&mut out)?;
@@ -241,6 +241,5 @@ fn main(rt: HostRuntime) -> io::Result<()> {
     outside(&mut out)?;
     tile(&mut out)?;
     every_third(&mut out)?;
-    set_falling(&mut out)?;
-    out.flush()
+    set_falling(&mut out)
 }

@@ -7,7 +7,7 @@ use file::{
     TypeShape,
 };
 use std::io;
-use std::io::{BufWriter, Write};
+use std::io::Write;
 use view::{BytePos, Offset, Owner, View};
 
 // Prints a text.
@@ -544,7 +544,7 @@ fn forge(out: &mut impl Write, pointer: u64) -> io::Result<()> {
 }
 
 fn main(rt: HostRuntime) -> io::Result<()> {
-    let mut out = BufWriter::new(rt.alloc(), io::writer(&rt))?;
+    let mut out = io::writer(&rt);
     open(&mut out)?;
     set_view(&mut out)?;
     set_for(&mut out, Handle::MODE_WRITING)?;
@@ -572,6 +572,5 @@ fn main(rt: HostRuntime) -> io::Result<()> {
     write(&mut out)?;
     share(&mut out)?;
     forge(&mut out, 4294967296)?;
-    forge(&mut out, 4294967297)?;
-    out.flush()
+    forge(&mut out, 4294967297)
 }

@@ -12,7 +12,7 @@ use body::{capped, file_at, length_at, slot_of};
 use file::{FileRecord, Handle};
 use line::Line;
 use std::io;
-use std::io::{BufReader, BufWriter, Input, Read, Write};
+use std::io::{Input, Read, Write};
 use tagged_fields::Field;
 
 // At most this many records are taken.
@@ -224,8 +224,7 @@ fn run(input: &mut impl Read, out: &mut impl Write) -> io::Result<()> {
 }
 
 fn main(rt: HostRuntime) -> io::Result<()> {
-    let mut input = BufReader::new(rt.alloc(), rt.reader())?;
-    let mut out = BufWriter::new(rt.alloc(), io::writer(&rt))?;
-    run(&mut input, &mut out)?;
-    out.flush()
+    let mut input = rt.reader();
+    let mut out = io::writer(&rt);
+    run(&mut input, &mut out)
 }

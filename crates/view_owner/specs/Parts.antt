@@ -1,4 +1,4 @@
--- Need not be believed. What each part of the reverse lookup finds: the contract of `owner_of` cites `owner_of`, and the proofs show that these make it up.
+-- Need not be believed. What each part of the reverse lookup finds: the contract of `owner_of` cites the definition of that name, and the proofs show that these make it up.
 use Rattle.std.specs.Prelude.{ℕ, zero, suc, ◌+◌, ◌-◌, ◌*◌, ◌/◌, ◌%◌, ◌≤◌, ◌<◌, cond, List, leb, ltb, pos}
 use Rattle.laws.specs.Checks.{also}
 use Rattle.laws.specs.Lists.{nth}

@@ -1,4 +1,4 @@
--- `entries_fit_law` compares sums of small products, which do not wrap. Assumes nothing.
+-- `entries_fit` compares sums of small products, which do not wrap. Assumes nothing.
 use Rattle.recipe_plan.proofs.Making.{times_fits, sum_fits, fit_below, fit_above}
 use Rattle.recipe_plan.proofs.entries_fit.Goals as goal
 

@@ -1,4 +1,4 @@
--- `entries_fit_law` passes the entries in order and leaves at the first that breaks the rule. Assumes nothing.
+-- `entries_fit` passes the entries in order and leaves at the first that breaks the rule. Assumes nothing.
 use Rattle.laws.proofs.Prelude.{◌-◌, rules, passed_fails, passed_holds, passed_more, passed_none}
 use Rattle.rule_entries.proofs.Fitting.{entry_false, entry_true}
 use Rattle.rule_entries.proofs.entries_fit.Goals as goal

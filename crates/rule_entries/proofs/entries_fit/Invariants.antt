@@ -1,4 +1,4 @@
--- `entries_fit_law` passes the entries in order and leaves at the first that breaks the rule. Assumes nothing.
+-- `entries_fit` passes the entries in order and leaves at the first that breaks the rule. Assumes nothing.
 use Rattle.laws.proofs.Prelude.{◌-◌, Passed}
 use Rattle.rule_entries.specs.Parts.{entry_fits_at}
 use Rattle.rule_entries.proofs.entries_fit.Given as goal

@@ -1,4 +1,4 @@
--- `list_length_law` takes at most 8,192. Assumes nothing.
+-- `list_length` takes at most 8,192. Assumes nothing.
 use Rattle.set_record.proofs.Setting.{list_length_is}
 use Rattle.set_record.proofs.list_length.Goals as goal
 
