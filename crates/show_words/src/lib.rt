@@ -60,46 +60,34 @@ fn print_recipe_rule(out: &mut impl Write, refusal: u64) -> io::Result<()> {
 
 // The table of rules: prints the rule that a refusal number stands for, and nothing for 0, a granted call.
 pub fn print_rule(out: &mut impl Write, refusal: u64) -> io::Result<()> {
-    match refusal {
-        0 => Ok(()),
-        View::REFUSED_HANDLE => say(
-            out,
+    let rule: &[u8] = match refusal {
+        0 => b"",
+        View::REFUSED_HANDLE =>
             b"the handle's mode is not 1 to 3, its pointer or view breaks a rule, or the file breaks its limits",
-        ),
-        View::REFUSED_REPRESENTATION => say(out, b"the representation is not native"),
-        View::REFUSED_DISPLACEMENT => say(out, b"the view displacement is out of range"),
-        View::REFUSED_ENTRY_COUNT => say(
-            out,
+        View::REFUSED_REPRESENTATION => b"the representation is not native",
+        View::REFUSED_DISPLACEMENT => b"the view displacement is out of range",
+        View::REFUSED_ENTRY_COUNT =>
             b"a type's two lists differ in length, or an entry count is not allowed",
-        ),
-        View::REFUSED_EXTENT => say(out, b"an extent is out of range"),
-        View::REFUSED_ENTRY => say(out, b"a width or entry displacement is not allowed"),
-        View::REFUSED_ORDER => say(out, b"displacements decrease"),
-        View::REFUSED_HOLE => say(out, b"a hole is no multiple of the etype's extent"),
-        View::REFUSED_OVERLAP => say(
-            out,
+        View::REFUSED_EXTENT => b"an extent is out of range",
+        View::REFUSED_ENTRY => b"a width or entry displacement is not allowed",
+        View::REFUSED_ORDER => b"displacements decrease",
+        View::REFUSED_HOLE => b"a hole is no multiple of the etype's extent",
+        View::REFUSED_OVERLAP =>
             b"two data bytes lie at one place or a multiple of the filetype's extent apart, and the mode allows writing",
-        ),
-        View::REFUSED_MODE => say(
-            out,
+        View::REFUSED_MODE =>
             b"a read in a mode without reading, or a write or reverse lookup in one without writing",
-        ),
-        View::REFUSED_RANGE => say(
-            out,
-            b"an offset, offset plus count or seek target is out of range",
-        ),
-        View::REFUSED_ROOM => say(out, b"the buffer or a list is too short"),
-        View::REFUSED_LENGTH => say(out, b"a write's highest byte is at or past the file length"),
-        View::REFUSED_WHENCE => say(out, b"whence is not 0, 1 or 2"),
-        View::REFUSED_OPEN_MODE => say(out, b"open with a mode above 3"),
-        View::REFUSED_WHOLE_GROUPS => say(
-            out,
+        View::REFUSED_RANGE => b"an offset, offset plus count or seek target is out of range",
+        View::REFUSED_ROOM => b"the buffer or a list is too short",
+        View::REFUSED_LENGTH => b"a write's highest byte is at or past the file length",
+        View::REFUSED_WHENCE => b"whence is not 0, 1 or 2",
+        View::REFUSED_OPEN_MODE => b"open with a mode above 3",
+        View::REFUSED_WHOLE_GROUPS =>
             b"the number of filetype entries is no multiple of the etype's",
-        ),
-        View::REFUSED_GROUP => say(out, b"a group of the filetype differs from the etype"),
-        View::REFUSED_ORIGIN => say(out, b"an origin is below zero"),
-        _ => print_recipe_rule(out, refusal),
-    }
+        View::REFUSED_GROUP => b"a group of the filetype differs from the etype",
+        View::REFUSED_ORIGIN => b"an origin is below zero",
+        _ => return print_recipe_rule(out, refusal),
+    };
+    say(out, rule)
 }
 
 // Prints the refusal of any call: its number, and the rule. A granted call has just the number, 0.
