@@ -1,2 +1,1 @@
-pub mod Setting
 pub mod Making

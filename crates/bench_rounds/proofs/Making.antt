@@ -2,20 +2,9 @@
 use Rattle.laws.proofs.Prelude.{ℕ, zero, suc, ◌+◌, ◌≤◌, ◌<◌, ◌≡◌, refl, sym, ap, ◌∙◌, List, ⊎_elim, arith, add-one, length, ℤ, w64, SFits, to_z, of_z, to_z-of_z, rules, granted, granted_yes, granted_no, lt_or_le}
 use Rattle.file.specs.declared.Handle.{Handle}
 use Rattle.handle.specs.declared.FileRecord.{FileRecord}
-use Rattle.file.specs.declared.SetViewAnswer.{SetViewAnswer}
-use Rattle.bench_rounds.specs.declared.Last.{Last}
 use Rattle.file.specs.declared.AccessAnswer.{AccessAnswer}
 use Rattle.file.specs.Parts.{ReadAt, WriteAt}
-use Rattle.bench_rounds.specs.Parts.{Round, body_set, after_set, begun, last_of, read_after, write_after, Left}
-
--- ---- before the first round
-
-abbrev last_of_set : SetViewAnswer → ℕ → Last
-last_of_set a size = record { refusal = a.refusal; handle = a.handle; file = record { size = size } }
-
-pub after_set_is : (view : List ℕ) (size : ℕ) (a : SetViewAnswer) → a ≡ body_set view → last_of_set a size ≡ after_set view size
-unfolding after_set
-after_set_is view size a e = ap (λ (z : SetViewAnswer). last_of_set z size) e
+use Rattle.bench_rounds.specs.Parts.{Round, after_set, begun, last_of, read_after, write_after, Left}
 
 -- ---- any access
 
@@ -28,9 +17,9 @@ pub record Made (access : Round → Round) (s : Round) (n i : ℕ) (t : Round) :
   pub room : length t.bytes ≡ length s.bytes
   pub last : t ≡ last_of access i s
 
-pub made_none : (access : Round → Round) (view : List ℕ) (size n : ℕ) (a : Last) (b : List ℕ) → a ≡ after_set view size → Made access (begun view size b) n 0 (round a.refusal a.handle a.file b)
+pub made_none : (access : Round → Round) (view : List ℕ) (size n : ℕ) (a : AccessAnswer) (b : List ℕ) → a ≡ after_set view size → Made access (begun view size b) n 0 (round a.refusal a.handle a.file b)
 unfolding last_of
-made_none access view size n a b e = record { reached = omega arith; room = refl; last = ap (λ (z : Last). round z.refusal z.handle z.file b) e }
+made_none access view size n a b e = record { reached = omega arith; room = refl; last = ap (λ (z : AccessAnswer). round z.refusal z.handle z.file b) e }
 
 module _ (access : Round → Round) (s : Round) (n i : ℕ) (t : Round) (m : Made access s n i t) where
   pub made_more : (t' : Round) → i < n → t.refusal ≡ 0 → length t'.bytes ≡ length t.bytes → t' ≡ access t → Made access s n (i + 1) t'

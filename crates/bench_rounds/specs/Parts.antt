@@ -2,7 +2,7 @@
 use Rattle.std.specs.Prelude.{ℕ, zero, suc, List, ◌≡◌, ℤ, length}
 use Rattle.laws.specs.Checks.{granted}
 use Rattle.handle.specs.declared.FileRecord.{FileRecord}
-use Rattle.bench_rounds.specs.declared.Last.{Last}
+use Rattle.file.specs.declared.AccessAnswer.{AccessAnswer}
 use Rattle.file.specs.Parts.{open_answer, set_view_answer, read_at_answer, read_buffer, write_at_answer, written_file}
 use Rattle.file.specs.declared.Handle.{Handle}
 use Rattle.file.specs.declared.SetViewAnswer.{SetViewAnswer}
@@ -14,11 +14,11 @@ use Rattle.set_record.specs.Sets.{view_in, representation_in}
 unfoldable pub body_set : List ℕ → SetViewAnswer
 body_set body = set_view_answer (open_answer 3).handle (representation_in body) (view_in body)
 
--- what this set leaves to the first round, with a file of this size
-unfoldable pub after_set : List ℕ → ℕ → Last
+-- what this set leaves to the first round, with a file of this size, as a round's answer
+unfoldable pub after_set : List ℕ → ℕ → AccessAnswer
 after_set body size =
     let a = body_set body in
-    record { refusal = a.refusal; handle = a.handle; file = record { size = size } }
+    record { refusal = a.refusal; count = a.count; handle = a.handle; file = record { size = size } }
 
 -- ---- rounds
 

@@ -5,40 +5,34 @@
 ghost use Rattle.std.specs.Prelude.{◌≡◌};
 ghost use Rattle.bench_rounds.specs.Parts.{body_set, after_set, read_rounds, write_rounds, Left};
 
-use file::{FileRecord, Handle, SetViewAnswer};
+use file::{AccessAnswer, FileRecord, Handle, SetViewAnswer};
 use view::Offset;
 
-// What the set or a round leaves to the next round. It is no answer's type, so that the two loops share it.
-#[derive(Clone, Copy)]
-struct Last {
-    refusal: u64,
-    handle: Handle,
-    file: FileRecord,
-}
-
 // Opens a handle with mode 3 and sets the view that the body describes.
+#[tactic(auto, unfolding(crate::specs::Parts::body_set))]
 fn set_view(view: &[u8]) -> SetViewAnswer
     ensures { result ≡ body_set view.now }
 {
-    let opened = Handle::open(Handle::MODE_BOTH);
-    let fresh = opened.handle;
-    set_record::set_view(fresh, view)
+    set_record::set_view(Handle::open(Handle::MODE_BOTH).handle, view)
 }
 
-// A handle with the view set and a file record of this size, for the first round.
-fn begin(view: &[u8], size: u64) -> Last
+// What the set leaves to the first round, as the answer of a round before it: a handle with the view set and a file record of this size.
+#[tactic(auto, unfolding(crate::specs::Parts::after_set))]
+fn begin(view: &[u8], size: u64) -> AccessAnswer
     ensures { result ≡ after_set view.now size }
 {
     let set = set_view(view);
-    let handle = set.handle;
-    Last {
+    AccessAnswer {
         refusal: set.refusal,
-        handle: handle,
+        count: set.count,
+        handle: set.handle,
         file: FileRecord { size: size },
     }
 }
 
 // Reads `count` etypes at `offset` into the buffer, `rounds` times.
+// Numbers and lists come one by one, and the refusal is a number: the C interface has no structs and no enums of ours.
+// Its loop and that of the writes stand apart: one lends the buffer to be written, the other the file, and one loop over a closure or a trait takes more lines than the two.
 #[unsafe(no_mangle)]
 pub extern "C" fn glyphbirch_read_rounds(
     view: &[u8],
@@ -52,22 +46,13 @@ pub extern "C" fn glyphbirch_read_rounds(
     ensures { Left (read_rounds view.now file.now size offset count rounds buf.old) result buf.new }
 {
     let mut last_read = begin(view, size);
-    let mut reads = 0;
-    while reads < rounds {
+    for _ in 0..rounds {
         if last_read.refusal != 0 {
-            return last_read.refusal;
+            break;
         }
-        let handle = last_read.handle;
-        let rec = last_read.file;
-        let answer = handle.read_at(file, rec, Offset(offset), count, buf);
-        let handle_after = answer.handle;
-        let rec_after = answer.file;
-        last_read = Last {
-            refusal: answer.refusal,
-            handle: handle_after,
-            file: rec_after,
-        };
-        reads += 1;
+        last_read = last_read
+            .handle
+            .read_at(file, last_read.file, Offset(offset), count, buf);
     }
     last_read.refusal
 }
@@ -86,22 +71,13 @@ pub extern "C" fn glyphbirch_write_rounds(
     ensures { Left (write_rounds view.now file.old size offset count rounds buf.now) result file.new }
 {
     let mut last_write = begin(view, size);
-    let mut writes = 0;
-    while writes < rounds {
+    for _ in 0..rounds {
         if last_write.refusal != 0 {
-            return last_write.refusal;
+            break;
         }
-        let handle = last_write.handle;
-        let rec = last_write.file;
-        let answer = handle.write_at(file, rec, Offset(offset), count, buf);
-        let handle_after = answer.handle;
-        let rec_after = answer.file;
-        last_write = Last {
-            refusal: answer.refusal,
-            handle: handle_after,
-            file: rec_after,
-        };
-        writes += 1;
+        last_write = last_write
+            .handle
+            .write_at(file, last_write.file, Offset(offset), count, buf);
     }
     last_write.refusal
 }

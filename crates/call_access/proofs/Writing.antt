@@ -1,10 +1,15 @@
 -- A write: check 14 after the checks of an access, what a granted one hands to the mover, and what it answers and leaves.
 use Rattle.laws.proofs.Prelude.{ℕ, ◌*◌, ◌≤◌, ◌<◌, ◌≡◌, refl, sym, ap, ◌∙◌, Bool, true, List, arith, length, ℤ, leb, lit<, leb-true, le-leb, lt-leb, check, granted, nth, store, check_yes, check_no, check_inv, granted_no, Passes, length_store}
+use Rattle.std.proofs.Common.{Result, Ok, Err}
 use Rattle.view.specs.declared.View.{View}
 use Rattle.view.specs.declared.BytePos.{BytePos}
+use Rattle.view.specs.declared.refusals.Refusal.{Refusal}
+use Rattle.view.specs.declared.refusals.Refusal.TheVariants.{Length}
+use Rattle.view.specs.Parts.{refusal_in, refusal_number}
 use Rattle.view.specs.Modes.{allows_writing}
 use Rattle.view.specs.Types.{PaperView, paper, whole}
 use Rattle.view.specs.Places.{data_size}
+use Rattle.view.proofs.Numbered.{refused_some}
 use Rattle.handle.specs.declared.FileRecord.{FileRecord}
 use Rattle.handle.specs.Ranges.{access_allowed}
 use Rattle.handle.specs.Handles.{PaperHandle, file_valid}
@@ -16,9 +21,7 @@ use Rattle.move_write.proofs.Scattering.{write_done}
 use Rattle.call_checks.specs.Refusals.{access_refusal, write_refusal}
 use Rattle.call_checks.proofs.Handles.{file_short}
 use Rattle.call_checks.proofs.Accesses.{access_passes, access_movable}
-use Rattle.call_access.specs.declared.WriteChecks.{WriteChecks}
-use Rattle.call_access.specs.declared.WriteOutcome.{WriteOutcome}
-use Rattle.call_access.specs.Parts.{write_as, checked_as, WriteChecked, WriteMade}
+use Rattle.call_access.specs.Parts.{WriteChecked, WriteMade}
 
 -- ---- the checks
 
@@ -27,41 +30,41 @@ last : PaperView → ℕ → ℤ → ℕ → ℕ
 last v len o c = check (leb (write_end v (whole o) c) len) 14 0
 
 module _ (mode pointer : ℕ) (v : View) (len : ℕ) (r : FileRecord) (o : ℤ) (c room : ℕ) where
-  module _ (u : Bool) (a : u ≡ allows_writing mode) (n : ℕ) (q : n ≡ access_refusal u (paper_handle mode pointer v) len r o c room 0) where
+  module _ (u : Bool) (a : u ≡ allows_writing mode) where
     passes : Passes (access_refusal (allows_writing mode) (paper_handle mode pointer v) len r o c room)
     passes = access_passes (allows_writing mode) (paper_handle mode pointer v) len r o c room
 
-    found : n ≡ access_refusal (allows_writing mode) (paper_handle mode pointer v) len r o c room 0
-    found = q ∙ ap (λ (b : Bool). access_refusal b (paper_handle mode pointer v) len r o c room 0) a
+    found : (n : ℕ) → n ≡ access_refusal u (paper_handle mode pointer v) len r o c room 0 → n ≡ access_refusal (allows_writing mode) (paper_handle mode pointer v) len r o c room 0
+    found n q = q ∙ ap (λ (b : Bool). access_refusal b (paper_handle mode pointer v) len r o c room 0) a
 
     -- an access that is refused before check 14
-    pub judged_access : (n ≡ 0 → ⊥) → (j : WriteChecks) → j ≡ checked_as n (record { 0 = 0 }) → WriteChecked (paper_handle mode pointer v) len r o c room j
-    unfolding write_refusal
-    judged_access z j g = rw g (record { refusal = found ∙ sym (passes.stops _ (λ p. z (found ∙ p))); end = λ p. absurd (z p) })
+    pub judged_access : (e : Refusal) → refusal_number e ≡ access_refusal u (paper_handle mode pointer v) len r o c room 0 → WriteChecked (paper_handle mode pointer v) len r o c room (Err e)
+    unfolding write_refusal refusal_in
+    judged_access e q = record { refusal = found _ q ∙ sym (passes.stops _ (λ p. refused_some ℕ e (found _ q ∙ p))); end = tt }
 
-    module _ (z : n ≡ 0) where
+    module _ (q : 0 ≡ access_refusal u (paper_handle mode pointer v) len r o c room 0) where
       -- check 14 is asked exactly if none of the others refuses
       asked : write_refusal (paper_handle mode pointer v) len r o c room ≡ last (paper v) len o c
       unfolding write_refusal last
-      asked = passes.on _ (sym found ∙ z)
+      asked = passes.on _ (sym (found 0 q))
 
       pub judged_ranged : Ranged v o c
-      judged_ranged = (access_movable u mode pointer v len r o c room 0 (sym q ∙ z)).ranged
+      judged_ranged = (access_movable u mode pointer v len r o c room 0 (sym q)).ranged
 
       module _ (end : BytePos) (e : end.0 ≡ write_end (paper v) (whole o) c) where
-        pub judged_past : len < end.0 → (j : WriteChecks) → j ≡ checked_as 14 (record { 0 = 0 }) → WriteChecked (paper_handle mode pointer v) len r o c room j
-        unfolding last
-        judged_past l j g = rw g (record {
+        pub judged_past : len < end.0 → WriteChecked (paper_handle mode pointer v) len r o c room (Err Length)
+        unfolding last refusal_in refusal_number
+        judged_past l = record {
           refusal = check_no _ 14 0 14 (lt-leb (write_end (paper v) (whole o) c) len (rw e at l)) refl ∙ sym asked;
-          end = λ y. absurd (omega (arith, y));
-        })
+          end = tt;
+        }
 
-        pub judged_granted : end.0 ≤ len → (j : WriteChecks) → j ≡ checked_as 0 end → WriteChecked (paper_handle mode pointer v) len r o c room j
-        unfolding last
-        judged_granted l j g = rw g (record {
+        pub judged_granted : end.0 ≤ len → WriteChecked (paper_handle mode pointer v) len r o c room (Ok end)
+        unfolding last refusal_in
+        judged_granted l = record {
           refusal = check_yes _ 14 0 0 (le-leb (write_end (paper v) (whole o) c) len (rw e at l)) refl ∙ sym asked;
-          end = λ y. e;
-        })
+          end = e;
+        }
 
 -- ---- the write
 
@@ -90,32 +93,29 @@ write_storable mode pointer v len r o c room z =
     record { ranged = m.ranged; room = m.room; ends = (checked (paper_handle mode pointer v) len r o c room z).ends }
 
 -- what it hands to the mover
-module _ (mode pointer : ℕ) (v : View) (file : List ℕ) (r : FileRecord) (o : ℤ) (c room : ℕ) (j : WriteChecks) (e : WriteChecked (paper_handle mode pointer v) (length file) r o c room j) (z : j.refusal ≡ 0) where
+module _ (mode pointer : ℕ) (v : View) (file : List ℕ) (r : FileRecord) (o : ℤ) (c room : ℕ) (end : BytePos) (e : WriteChecked (paper_handle mode pointer v) (length file) r o c room (Ok end)) where
   passed : write_refusal (paper_handle mode pointer v) (length file) r o c room ≡ 0
-  passed = sym e.refusal ∙ z
+  unfolding refusal_in
+  passed = sym e.refusal
 
-  pub write_growable : Growable (length file) r j.end.0
+  pub write_growable : Growable (length file) r end.0
   write_growable =
       let k = checked (paper_handle mode pointer v) (length file) r o c room passed in
-      record { short = file_short (paper_handle mode pointer v) (length file) r k.valid; ends = rw (e.end z) k.ends }
+      record { short = file_short (paper_handle mode pointer v) (length file) r k.valid; ends = rw e.end k.ends }
 
-  pub filled_storable : (filled : List ℕ) (grown : FileRecord) → Grown r j.end.0 file filled grown → Storable v (length filled) o c room
+  pub filled_storable : (filled : List ℕ) (grown : FileRecord) → Grown r end.0 file filled grown → Storable v (length filled) o c room
   filled_storable filled grown f =
       let l : length filled ≡ length file = ap length f.bytes ∙ length_store _ _ _ file in
       rw l (write_storable mode pointer v (length file) r o c room passed)
 
 -- what it answers and leaves
-module _ (mode pointer : ℕ) (v : View) (file : List ℕ) (r : FileRecord) (o : ℤ) (c : ℕ) (buf : List ℕ) (j : WriteChecks) (e : WriteChecked (paper_handle mode pointer v) (length file) r o c (length buf) j) where
-  pub write_refused : (j.refusal ≡ 0 → ⊥) → (a : WriteOutcome) → a ≡ write_as j.refusal 0 r → WriteMade (paper_handle mode pointer v) file file r o c buf a
-  write_refused z a g = rw g (record {
-    refusal = e.refusal;
-    count = sym (granted_no j.refusal c 0 z);
-    file = sym (granted_no j.refusal _ r z);
-    bytes = sym (granted_no j.refusal _ file z);
-  })
+module _ (mode pointer : ℕ) (v : View) (file : List ℕ) (r : FileRecord) (o : ℤ) (c : ℕ) (buf : List ℕ) where
+  pub write_refused : (e : Refusal) → WriteChecked (paper_handle mode pointer v) (length file) r o c (length buf) (Err e) → WriteMade (paper_handle mode pointer v) file file r o c buf (Err e)
+  unfolding refusal_in
+  write_refused e k = record { refusal = k.refusal; file = tt; bytes = sym (granted_no _ _ file (refused_some ℕ e)) }
 
-  pub write_made : j.refusal ≡ 0 → (filled : List ℕ) (grown : FileRecord) → Grown r j.end.0 file filled grown → (after : List ℕ) → after ≡ store (file_byte (paper v) (whole o)) (nth buf) (c * data_size (paper v)) filled → (a : WriteOutcome) → a ≡ write_as 0 c grown → WriteMade (paper_handle mode pointer v) file after r o c buf a
-  unfolding granted
-  write_made z filled grown f after s a g =
-      let d = write_done v r grown o c j.end.0 buf file filled after (e.end z) f s in
-      rw g (record { refusal = sym z ∙ e.refusal; count = refl; file = d.0; bytes = d.1 })
+  pub write_made : (end : BytePos) → WriteChecked (paper_handle mode pointer v) (length file) r o c (length buf) (Ok end) → (filled : List ℕ) (grown : FileRecord) → Grown r end.0 file filled grown → (after : List ℕ) → after ≡ store (file_byte (paper v) (whole o)) (nth buf) (c * data_size (paper v)) filled → WriteMade (paper_handle mode pointer v) file after r o c buf (Ok grown)
+  unfolding granted refusal_in
+  write_made end k filled grown f after s =
+      let d = write_done v r grown o c end.0 buf file filled after k.end f s in
+      record { refusal = k.refusal; file = d.0; bytes = d.1 }

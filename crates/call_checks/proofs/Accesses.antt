@@ -4,13 +4,12 @@ use Rattle.view.specs.declared.View.{View}
 use Rattle.view.specs.Types.{paper, whole}
 use Rattle.view.specs.Acceptance.{Valid}
 use Rattle.view.specs.Places.{data_size}
-use Rattle.view.specs.Parts.{view_with, WidthsValid, size_of}
+use Rattle.view.specs.Parts.{WidthsValid, size_of}
 use Rattle.view.proofs.Etypes.{widths_valid}
-use Rattle.handle.specs.declared.HandleNumbers.{HandleNumbers}
 use Rattle.handle.specs.declared.FileRecord.{FileRecord}
 use Rattle.handle.specs.Ranges.{access_allowed}
 use Rattle.handle.specs.Handles.{PaperHandle, file_valid}
-use Rattle.handle.specs.Parts.{paper_handle, handle_with}
+use Rattle.handle.specs.Parts.{paper_handle}
 use Rattle.handle.proofs.Ranging.{access_sum, access_offset, bytes_fit}
 use Rattle.move_read.specs.Parts.{Movable}
 use Rattle.move_read.proofs.Etypes.{entries_valid, data_is, data_small}
@@ -19,25 +18,25 @@ use Rattle.call_checks.proofs.Handles.{file_view, file_short, file_limit}
 
 -- ---- check 13, by the widths in the record
 
-module _ (h : HandleNumbers) (ws ds ps : List ℕ) (len : ℕ) (r : FileRecord) (t : Bool) (k : t ≡ file_valid (handle_with h ws ds ps) len r) (n : not t ≡ false) where
-  valid : Valid (paper (view_with h.view ws ds ps))
-  valid = file_view (handle_with h ws ds ps) len r (unflag_true t _ k n)
+module _ (mode pointer : ℕ) (v : View) (len : ℕ) (r : FileRecord) (t : Bool) (k : t ≡ file_valid (paper_handle mode pointer v) len r) (n : not t ≡ false) where
+  valid : Valid (paper v)
+  valid = file_view (paper_handle mode pointer v) len r (unflag_true t _ k n)
 
-  pub access_widths : WidthsValid h.view.etype.entries ws
-  access_widths = widths_valid _ _ _ (entries_valid (view_with h.view ws ds ps) valid)
+  pub access_widths : WidthsValid v.numbers.etype.entries v.widths
+  access_widths = widths_valid _ _ _ (entries_valid v valid)
 
-  module _ (s : ℕ) (e : s ≡ size_of h.view.etype.entries ws) where
-    size_is : s ≡ data_size (paper (view_with h.view ws ds ps))
-    size_is = e ∙ data_is (view_with h.view ws ds ps) valid
+  module _ (s : ℕ) (e : s ≡ size_of v.numbers.etype.entries v.widths) where
+    size_is : s ≡ data_size (paper v)
+    size_is = e ∙ data_is v valid
 
     pub access_fits : (o : ℤ) (c : ℕ) (u : Bool) → u ≡ access_allowed o c → not u ≡ false → Fits w64 (c * s)
-    access_fits o c u a m = bytes_fit o c s u a m (omega (arith, size_is, data_small (view_with h.view ws ds ps) valid))
+    access_fits o c u a m = bytes_fit o c s u a m (omega (arith, size_is, data_small v valid))
 
     module _ (c room : ℕ) where
-      pub room_short : room < c * s → leb (c * data_size (paper (view_with h.view ws ds ps))) room ≡ false
+      pub room_short : room < c * s → leb (c * data_size (paper v)) room ≡ false
       room_short l = lt-leb _ room (rw size_is at l)
 
-      pub room_enough : c * s ≤ room → leb (c * data_size (paper (view_with h.view ws ds ps))) room ≡ true
+      pub room_enough : c * s ≤ room → leb (c * data_size (paper v)) room ≡ true
       room_enough l = le-leb _ room (rw size_is at l)
 
 -- ---- the chain

@@ -21,6 +21,7 @@ pub fn open_file(mode: u64) -> OpenAnswer
 }
 
 // Sets a view: granted exactly if handle, representation and view keep their rules, and then the handle has the lent view.
+// The lists come one by one, as `Handle::set_view` has them.
 pub fn set_view(
     handle: Handle,
     representation: &[u8],
@@ -74,7 +75,7 @@ pub fn seek(handle: Handle, bytes: &[u8], rec: FileRecord, by: i64, whence: u64)
     handle.seek(bytes, rec, by, whence)
 }
 
-// Where a data access begins: at the pointer, or at an explicit offset.
+// Where a data access begins: at the pointer, or at an explicit offset. As an Option the pointer would be a None that says nothing of itself.
 #[derive(Clone, Copy)]
 pub enum Begin {
     Pointer,

@@ -1,4 +1,5 @@
 //! The claim about recipes and the set after them, as functions that make these calls and whose contracts are the claim, for all inputs.
+//! Its buffers are arrays of the greatest length: no library here allocates.
 #![tactic(auto)]
 
 ghost use Rattle.std.specs.Prelude.{◌≡◌};
@@ -8,6 +9,8 @@ ghost use Rattle.claim_recipe.specs.FlattenThenSet.{FiletypeSet, RecipesSet, rec
 use file::{Handle, SetViewAnswer};
 use view::Named;
 
+// The refusal is a number: `Flattened` has it so, and `recipe_refused` takes it.
+#[tactic(auto, unfolding(crate::specs::FlattenThenSet::recipe_refused))]
 fn refused(refusal: u64, handle: Handle) -> SetViewAnswer
     ensures { result ≡ recipe_refused refusal handle }
 {
@@ -100,13 +103,12 @@ pub fn set_recipe(
         (recipe_of steps.now items.now) result }
 {
     let etype = [recipe::CONTIGUOUS, recipe::BASIC, width, 1, 0, 0];
-    let none = [0u64; 1];
     set_recipes(
         handle,
         representation,
         displacement,
         &etype,
-        &none[..0],
+        &[],
         steps,
         items,
     )

@@ -13,6 +13,7 @@ pub struct SetAndGot {
 }
 
 // Sets a view, and gives it back through the handle that the set gave back: the lists begin with exactly the lists set.
+// The lists come one by one, as `Handle::set_view` has them.
 pub fn set_then_get(
     handle: Handle,
     representation: &[u8],

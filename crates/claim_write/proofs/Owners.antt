@@ -1,7 +1,8 @@
 -- A handle that passes check 1 and allows writing: each file byte belongs to at most one pair of its view, and a granted reverse lookup answers that pair, or none if there is none.
 -- Rests on the laws of the reverse lookup, of a view that is accepted for writing.
 use Rattle.laws.proofs.Prelude.{ℕ, ◌≡◌, sym, ap, ◌∙◌, true, arith, check_inv, granted_yes, granted_no}
-use Rattle.view.specs.declared.Owner.{Owner}
+use Rattle.view.specs.declared.Pair.{Pair}
+use Rattle.std.proofs.Common.{Option}
 use Rattle.view.specs.Acceptance.{accepted}
 use Rattle.view.specs.Modes.{allows_writing}
 use Rattle.view.specs.Owners.{OneOwner, Answers}
@@ -41,7 +42,7 @@ module _ (h : Handle) (z : reverse_refusal (on_paper h) ≡ 0) where
     reverse_is : Answers (view_of h) b (reverse_answer h b).owner
     reverse_is = rw owner_found (owner_is h.mode (view_of h) view_accepted_law passed.1 b)
 
-    reverse_only : (o : Owner) → Answers (view_of h) b o → o ≡ (reverse_answer h b).owner
+    reverse_only : (o : Option Pair) → Answers (view_of h) b o → o ≡ (reverse_answer h b).owner
     reverse_only o a = owner_only h.mode (view_of h) view_accepted_law passed.1 b o a ∙ sym owner_found
 
 -- the claim, of any answer that the call gives

@@ -1,7 +1,6 @@
 -- Must be believed. Document 01, "The words of demand 3": what is claimed of a reverse lookup.
-use Rattle.std.specs.Prelude.{ℕ, ◌≢◌, ◌≡◌}
-use Rattle.view.specs.declared.Owner.{Owner}
-use Rattle.view.specs.declared.Owner.TheVariants.{Nobody}
+use Rattle.std.specs.Prelude.{ℕ, Option, None, ◌≢◌, ◌≡◌}
+use Rattle.view.specs.declared.Pair.{Pair}
 use Rattle.view.specs.Owners.{OneOwner, Answers}
 use Rattle.call_checks.specs.Refusals.{reverse_refusal}
 use Rattle.file.specs.declared.Handle.{Handle}
@@ -13,7 +12,7 @@ use Rattle.file.specs.Handles.{on_paper, view_of}
 pub record LookedUp (h : Handle) (b : ℕ) (r : ReverseAnswer) : Type 0 where
   pub number : r.refusal ≡ reverse_refusal (on_paper h)
   pub rest : r ≡ record { refusal = r.refusal; count = 0; handle = h; owner = r.owner }
-  pub refused : r.refusal ≢ 0 → r.owner ≡ Nobody
+  pub refused : r.refusal ≢ 0 → r.owner ≡ None
   pub exact : r.refusal ≡ 0 → Answers (view_of h) b r.owner
-  pub only : r.refusal ≡ 0 → (o : Owner) → Answers (view_of h) b o → o ≡ r.owner
+  pub only : r.refusal ≡ 0 → (o : Option Pair) → Answers (view_of h) b o → o ≡ r.owner
   pub one : r.refusal ≡ 0 → OneOwner (view_of h)

@@ -1,6 +1,9 @@
 -- Giving back: the answer, from the refusal number that was found and the lists that were filled.
 use Rattle.laws.proofs.Prelude.{ℕ, ◌*◌, ◌≡◌, sym, ◌∙◌, ap, List, arith, mul-le-mul, ℤ, lit<, w64, Fits, granted, check_inv, granted_no}
 use Rattle.view.specs.declared.View.{View}
+use Rattle.view.specs.declared.refusals.Refusal.{Refusal}
+use Rattle.view.specs.Parts.{refusal_in, refusal_number}
+use Rattle.view.proofs.Numbered.{refused_some}
 use Rattle.view.specs.Types.{typemaps, paper, entries, extent_of, whole}
 use Rattle.view.specs.Acceptance.{Valid}
 use Rattle.view.proofs.Paper.{paper_entries, paper_file_entries, paper_extent, paper_file_extent, paper_start}
@@ -9,6 +12,7 @@ use Rattle.view_typemap.specs.Parts.{widths_filled, displacements_filled}
 use Rattle.call_checks.specs.Refusals.{get_view_refusal}
 use Rattle.call_checks.proofs.Handles.{held_view}
 use Rattle.call_query.specs.Parts.{ListsGot}
+use Rattle.handle.specs.Handles.{PaperHandle}
 use Rattle.file.specs.declared.Handle.{Handle}
 use Rattle.file.specs.declared.TypeShape.{TypeShape}
 use Rattle.file.specs.declared.GetViewAnswer.{GetViewAnswer}
@@ -23,9 +27,9 @@ entries_fit_law v k =
 -- ---- the answer
 
 module _ (h : Handle) (s f : TypeShape) where
-  pub given_none : (n : ℕ) → (n ≡ 0 → ⊥) → (s.entries ≡ 0) × (s.extent ≡ 0) → (f.entries ≡ 0) × (f.extent ≡ 0) → record { refusal = n; count = 0; handle = h; displacement = 0; etype = s; filetype = f } ≡ get_view_as n h
+  given_zeros : (n : ℕ) → (n ≡ 0 → ⊥) → (s.entries ≡ 0) × (s.extent ≡ 0) → (f.entries ≡ 0) × (f.extent ≡ 0) → record { refusal = n; count = 0; handle = h; displacement = 0; etype = s; filetype = f } ≡ get_view_as n h
   unfolding get_view_as shape_got
-  given_none n z a b = λ i. record {
+  given_zeros n z a b = λ i. record {
     refusal = n;
     count = 0;
     handle = h;
@@ -34,24 +38,29 @@ module _ (h : Handle) (s f : TypeShape) where
     filetype = record { entries = (b.0 ∙ sym (granted_no n (entries (view_of h).filetype) 0 z)) i; extent = (b.1 ∙ sym (granted_no n (extent_of (view_of h).filetype) 0 z)) i };
   }
 
-  pub given_view : (n : ℕ) → n ≡ 0 → (s.entries ≡ h.view.numbers.etype.entries) × (s.extent ≡ h.view.numbers.etype.extent) → (f.entries ≡ h.view.numbers.filetype.instances * h.view.numbers.etype.entries) × (f.extent ≡ h.view.numbers.filetype.extent) → record { refusal = 0; count = 0; handle = h; displacement = h.view.numbers.displacement; etype = s; filetype = f } ≡ get_view_as n h
+  pub given_none : (e : Refusal) (n : ℕ) → n ≡ refusal_number e → (s.entries ≡ 0) × (s.extent ≡ 0) → (f.entries ≡ 0) × (f.extent ≡ 0) → record { refusal = n; count = 0; handle = h; displacement = 0; etype = s; filetype = f } ≡ get_view_as (refusal_number e) h
+  unfolding refusal_in
+  given_none e n q a b = ap (λ (x : ℕ). record { refusal = x; count = 0; handle = h; displacement = 0; etype = s; filetype = f }) q ∙ given_zeros (refusal_number e) (refused_some ℕ e) a b
+
+  pub given_view : (s.entries ≡ h.view.numbers.etype.entries) × (s.extent ≡ h.view.numbers.etype.extent) → (f.entries ≡ h.view.numbers.filetype.instances * h.view.numbers.etype.entries) × (f.extent ≡ h.view.numbers.filetype.extent) → record { refusal = 0; count = 0; handle = h; displacement = h.view.numbers.displacement; etype = s; filetype = f } ≡ get_view_as 0 h
   unfolding get_view_as shape_got granted
-  given_view n z a b = rw z (λ i. record {
+  given_view a b = λ i. record {
     refusal = 0;
     count = 0;
     handle = h;
     displacement = sym (paper_start h.view) i;
     etype = record { entries = (a.0 ∙ sym (paper_entries h.view)) i; extent = (a.1 ∙ sym (paper_extent h.view)) i };
     filetype = record { entries = (b.0 ∙ sym (paper_file_entries h.view)) i; extent = (b.1 ∙ sym (paper_file_extent h.view)) i };
-  })
+  }
 
-pub all_fits : (h : Handle) (n : ℕ) → n ≡ 0 → (n ≡ 0 → Valid (paper h.view)) → Fits w64 (h.view.numbers.filetype.instances * h.view.numbers.etype.entries)
-all_fits h n z k = entries_fit_law h.view (k z)
+module _ (h : Handle) (ew ew' : List ℕ) (ed ed' : List ℤ) (fw fw' : List ℕ) (fd fd' : List ℤ) (k : PaperHandle) (l : k ≡ on_paper h) (n : ℕ) (got : ListsGot k ew ew' ed ed' fw fw' fd fd' n) where
+  g : ListsGot (on_paper h) ew ew' ed ed' fw fw' fd fd' n
+  g = rw l at got
 
-module _ (h : Handle) (ew ew' : List ℕ) (ed ed' : List ℤ) (fw fw' : List ℕ) (fd fd' : List ℤ) (n : ℕ) (g : ListsGot (on_paper h) ew ew' ed ed' fw fw' fd fd' n) where
-  pub give_valid : n ≡ 0 → Valid (paper h.view)
-  unfolding get_view_refusal
-  give_valid z = held_view (on_paper h) (check_inv _ 1 _ (lit< tt) (sym g.refusal ∙ z)).0
+  module _ (z : n ≡ 0) where
+    pub give_valid : Valid (paper h.view)
+    unfolding get_view_refusal
+    give_valid = held_view (on_paper h) (check_inv _ 1 _ (lit< tt) (sym g.refusal ∙ z)).0
 
   pub gave : (r : GetViewAnswer) → r ≡ get_view_as n h → GetViewDone h (typemaps ew ed fw fd) (typemaps ew' ed' fw' fd') r
   unfolding get_view_answer get_view_as

@@ -1,16 +1,19 @@
 -- A write: its answers at an offset and at the pointer, from what the access on its numbers answers.
 use Rattle.laws.proofs.Prelude.{ℕ, ◌+◌, ◌<◌, ◌≡◌, refl, sym, ap, ◌∙◌, List, arith, length, ℤ, pos, w64, Fits, granted, check_no, granted_yes, granted_no}
+use Rattle.std.proofs.Common.{Ok, Err}
 use Rattle.view.specs.declared.Offset.{Offset}
 use Rattle.view.specs.declared.View.{View}
+use Rattle.view.specs.declared.refusals.Refusal.{Refusal}
+use Rattle.view.specs.Parts.{refusal_in, refusal_number}
+use Rattle.view.proofs.Numbered.{refused_some}
 use Rattle.view.specs.Types.{whole}
 use Rattle.handle.specs.declared.FileRecord.{FileRecord}
 use Rattle.handle.specs.Parts.{paper_handle}
-use Rattle.handle.specs.Handles.{with_size}
+use Rattle.handle.specs.Handles.{PaperHandle, with_size}
 use Rattle.handle.proofs.Ranging.{access_sum}
 use Rattle.move_read.specs.Parts.{new_size, written}
 use Rattle.call_checks.specs.Refusals.{access_refusal, write_refusal}
 use Rattle.call_checks.proofs.Handles.{past_file, file_pointer}
-use Rattle.call_access.specs.declared.WriteOutcome.{WriteOutcome}
 use Rattle.call_access.specs.Parts.{WriteMade}
 use Rattle.call_access.proofs.Writing.{checked}
 use Rattle.file.specs.declared.Handle.{Handle}
@@ -19,32 +22,56 @@ use Rattle.file.specs.Handles.{on_paper, view_of}
 use Rattle.file.specs.Parts.{pointer_offset, access_refused, at_pointer, write_at_answer, written_file, WriteAt, WriteNext}
 use Rattle.file.proofs.Checking.{start_same, pointer_stays, pointer_raised}
 
+-- ---- a write by its refusal number, how many etypes it moved, and the file's record after it
+
+record WriteTold (h : PaperHandle) (before after : List ℕ) (r : FileRecord) (o : ℤ) (c : ℕ) (buffer : List ℕ) (n k : ℕ) (f : FileRecord) : Type 0 where
+  pub refusal : n ≡ write_refusal h (length before) r o c (length buffer)
+  pub count : k ≡ granted n c 0
+  pub file : f ≡ granted n (with_size r (new_size h.view r.size (whole o) c)) r
+  pub bytes : after ≡ granted n (written h.view r.size (whole o) c buffer before) before
+
+module _ (h : PaperHandle) (before after : List ℕ) (r : FileRecord) (o : ℤ) (c : ℕ) (buffer : List ℕ) where
+  told_ok : (f : FileRecord) → WriteMade h before after r o c buffer (Ok f) → WriteTold h before after r o c buffer 0 c f
+  unfolding refusal_in granted
+  told_ok f d = record { refusal = d.refusal; count = refl; file = d.file; bytes = d.bytes }
+
+  told_err : (e : Refusal) → WriteMade h before after r o c buffer (Err e) → WriteTold h before after r o c buffer (refusal_number e) 0 r
+  unfolding refusal_in
+  told_err e d = record {
+    refusal = d.refusal;
+    count = sym (granted_no _ c 0 (refused_some ℕ e));
+    file = sym (granted_no _ _ r (refused_some ℕ e));
+    bytes = d.bytes;
+  }
+
 -- ---- at an offset
 
-module _ (h : Handle) (file after : List ℕ) (r : FileRecord) (o : ℤ) (c : ℕ) (buf : List ℕ) (d : WriteOutcome) (write : WriteMade (on_paper h) file after r o c buf d) where
-  pub at_answered : WriteAt h file after r o c buf (record { refusal = d.refusal; count = d.count; handle = h; file = d.file })
+module _ (h : Handle) (file after : List ℕ) (r : FileRecord) (o : ℤ) (c : ℕ) (buf : List ℕ) (n k : ℕ) (f : FileRecord) (write : WriteTold (on_paper h) file after r o c buf n k f) where
+  at_answered : WriteAt h file after r o c buf (record { refusal = n; count = k; handle = h; file = f })
   unfolding write_at_answer written_file
   at_answered = record {
     answer = λ i. record {
       refusal = write.refusal i;
-      count = (write.count ∙ ap (λ (n : ℕ). granted n c 0) write.refusal) i;
+      count = (write.count ∙ ap (λ (x : ℕ). granted x c 0) write.refusal) i;
       handle = h;
-      file = (write.file ∙ ap (λ (n : ℕ). granted n (with_size r (new_size (view_of h) r.size (whole o) c)) r) write.refusal) i;
+      file = (write.file ∙ ap (λ (x : ℕ). granted x (with_size r (new_size (view_of h) r.size (whole o) c)) r) write.refusal) i;
     };
-    bytes = write.bytes ∙ ap (λ (n : ℕ). granted n (written (view_of h) r.size (whole o) c buf file) file) write.refusal;
+    bytes = write.bytes ∙ ap (λ (x : ℕ). granted x (written (view_of h) r.size (whole o) c buf file) file) write.refusal;
   }
 
-  pub at_none : (d.refusal ≡ 0 → ⊥) → d.count ≡ 0
-  at_none z = write.count ∙ granted_no d.refusal c 0 z
+  at_none : (n ≡ 0 → ⊥) → k ≡ 0
+  at_none z = write.count ∙ granted_no n c 0 z
 
 -- ---- at the pointer
 
 -- check 1 bounds the pointer, check 12 the count
-pub pointer_fits : (mode pointer : ℕ) (v : View) (file after : List ℕ) (r : FileRecord) (o : ℤ) (c : ℕ) (buf : List ℕ) (d : WriteOutcome) → WriteMade (paper_handle mode pointer v) file after r o c buf d → d.refusal ≡ 0 → Fits w64 (pointer + c)
-pointer_fits mode pointer v file after r o c buf d made z =
-    let y = sym made.refusal ∙ z in
-    let k = checked (paper_handle mode pointer v) (length file) r o c (length buf) y in
-    record { fits = omega (arith, file_pointer (paper_handle mode pointer v) (length file) r k.valid, access_sum o c k.range) }
+pub pointer_fits : (h : Handle) (g : PaperHandle) (l : g ≡ on_paper h) (file after : List ℕ) (r : FileRecord) (o : ℤ) (c : ℕ) (buf : List ℕ) (f : FileRecord) → WriteMade g file after r o c buf (Ok f) → Fits w64 (h.pointer + c)
+unfolding refusal_in
+pointer_fits h g l file after r o c buf f k =
+    let made : WriteMade (on_paper h) file after r o c buf (Ok f) = rw l at k in
+    let y = sym made.refusal in
+    let j = checked (on_paper h) (length file) r o c (length buf) y in
+    record { fits = omega (arith, file_pointer (on_paper h) (length file) r j.valid, access_sum o c j.range) }
 
 module _ (h : Handle) (file : List ℕ) (r : FileRecord) (c : ℕ) (buf : List ℕ) where
   -- check 1 refuses a pointer that is no offset, whatever the offset
@@ -60,22 +87,40 @@ module _ (h : Handle) (file : List ℕ) (r : FileRecord) (c : ℕ) (buf : List �
   unfolding written_file write_at_answer granted
   start_bytes = start_same h (λ (z : ℤ). written_file h file r z c buf) (λ l a b. rw (past_refused l a, past_refused l b))
 
-  module _ (after : List ℕ) (d : WriteOutcome) (b : Offset) (e : b.0 ≡ pointer_offset h) (made : WriteMade (on_paper h) file after r b.0 c buf d) where
-    at : WriteAt h file after r b.0 c buf (record { refusal = d.refusal; count = d.count; handle = h; file = d.file })
-    at = at_answered h file after r b.0 c buf d made
+  module _ (after : List ℕ) (n k : ℕ) (f : FileRecord) (b : Offset) (e : b.0 ≡ pointer_offset h) (made : WriteTold (on_paper h) file after r b.0 c buf n k f) where
+    at : WriteAt h file after r b.0 c buf (record { refusal = n; count = k; handle = h; file = f })
+    at = at_answered h file after r b.0 c buf n k f made
 
-    answer_is : record { refusal = d.refusal; count = d.count; handle = h; file = d.file } ≡ write_at_answer h (length file) r (pos h.pointer) c (length buf)
+    answer_is : record { refusal = n; count = k; handle = h; file = f } ≡ write_at_answer h (length file) r (pos h.pointer) c (length buf)
     answer_is = at.answer ∙ ap (λ (z : ℤ). write_at_answer h (length file) r z c (length buf)) e ∙ start_answer
 
     bytes_are : after ≡ written_file h file r (pos h.pointer) c buf
     bytes_are = at.bytes ∙ ap (λ (z : ℤ). written_file h file r z c buf) e ∙ start_bytes
 
-    pub next_refused : (d.refusal ≡ 0 → ⊥) → (m : AccessAnswer) → m ≡ access_refused d.refusal h d.file → WriteNext h file after r c buf m
-    next_refused z m q = record { answer = q ∙ pointer_stays h d.refusal d.count d.file z (at_none h file after r b.0 c buf d made z) ∙ ap (at_pointer h) answer_is; bytes = bytes_are }
+    told_refused : (n ≡ 0 → ⊥) → (m : AccessAnswer) → m ≡ access_refused n h f → WriteNext h file after r c buf m
+    told_refused z m q = record { answer = q ∙ pointer_stays h n k f z (at_none h file after r b.0 c buf n k f made z) ∙ ap (at_pointer h) answer_is; bytes = bytes_are }
 
-    module _ (z : d.refusal ≡ 0) where
-      count_is : d.count ≡ c
-      count_is = made.count ∙ granted_yes d.refusal c 0 z
+    module _ (z : n ≡ 0) where
+      count_is : k ≡ c
+      count_is = made.count ∙ granted_yes n c 0 z
 
-      pub next_done : WriteNext h file after r c buf (record { refusal = 0; count = c; handle = record { mode = h.mode; pointer = h.pointer + c; view = h.view }; file = d.file })
-      next_done = record { answer = pointer_raised h d.refusal c d.file z ∙ ap (λ (x : ℕ). at_pointer h (record { refusal = d.refusal; count = x; handle = h; file = d.file })) (sym count_is) ∙ ap (at_pointer h) answer_is; bytes = bytes_are }
+      told_done : WriteNext h file after r c buf (record { refusal = 0; count = c; handle = record { mode = h.mode; pointer = h.pointer + c; view = h.view }; file = f })
+      told_done = record { answer = pointer_raised h n c f z ∙ ap (λ (x : ℕ). at_pointer h (record { refusal = n; count = x; handle = h; file = f })) (sym count_is) ∙ ap (at_pointer h) answer_is; bytes = bytes_are }
+
+-- ---- by what the access answers
+
+module _ (h : Handle) (g : PaperHandle) (l : g ≡ on_paper h) (file after : List ℕ) (r : FileRecord) (c : ℕ) (buf : List ℕ) where
+  module _ (o : ℤ) where
+    pub at_written : (f : FileRecord) → WriteMade g file after r o c buf (Ok f) → WriteAt h file after r o c buf (record { refusal = 0; count = c; handle = h; file = f })
+    at_written f d = at_answered h file after r o c buf 0 c f (told_ok _ file after r o c buf f (rw l at d))
+
+    pub at_refused : (e : Refusal) → WriteMade g file after r o c buf (Err e) → (a : AccessAnswer) → a ≡ access_refused (refusal_number e) h r → WriteAt h file after r o c buf a
+    at_refused e d a q = rw q (at_answered h file after r o c buf (refusal_number e) 0 r (told_err _ file after r o c buf e (rw l at d)))
+
+  module _ (b : Offset) (s : b.0 ≡ pointer_offset h) where
+    pub next_written : (f : FileRecord) → WriteMade g file after r b.0 c buf (Ok f) → WriteNext h file after r c buf (record { refusal = 0; count = c; handle = record { mode = h.mode; pointer = h.pointer + c; view = h.view }; file = f })
+    next_written f d = told_done h file r c buf after 0 c f b s (told_ok _ file after r b.0 c buf f (rw l at d)) refl
+
+    pub next_refused : (e : Refusal) → WriteMade g file after r b.0 c buf (Err e) → (a : AccessAnswer) → a ≡ access_refused (refusal_number e) h r → WriteNext h file after r c buf a
+    unfolding refusal_in
+    next_refused e d a q = told_refused h file r c buf after (refusal_number e) 0 r b s (told_err _ file after r b.0 c buf e (rw l at d)) (refused_some ℕ e) a q

@@ -1,9 +1,8 @@
 -- Need not be believed. The whole answer of each call, and what it leaves in everything lent, as the contracts of the calls have them: the claims of `claim_calls` and `claim_write` have the properties.
 -- A refusal carries its number, count 0, any other number 0, and the handle and file record as they came; nothing lent changes.
-use Rattle.std.specs.Prelude.{ℕ, ◌+◌, cond, List, ◌≡◌, ℤ, pos, length}
+use Rattle.std.specs.Prelude.{ℕ, ◌+◌, cond, None, List, ◌≡◌, ℤ, pos, length}
 use Rattle.laws.specs.Checks.{granted}
 use Rattle.view.specs.declared.Named.{Named}
-use Rattle.view.specs.declared.Owner.TheVariants.{Nobody}
 use Rattle.view.specs.declared.View.{View}
 use Rattle.view.specs.Limits.{pointer_allowed}
 use Rattle.view.specs.Parts.{named_by, record_of, owner_of, end_of_file, default_view}
@@ -89,7 +88,7 @@ byte_offset_answer h o =
 unfoldable pub reverse_answer : Handle → ℕ → ReverseAnswer
 reverse_answer h b =
     let n = reverse_refusal (on_paper h) in
-    record { refusal = n; count = 0; handle = h; owner = granted n (owner_of (view_of h) b) Nobody }
+    record { refusal = n; count = 0; handle = h; owner = granted n (owner_of (view_of h) b) None }
 
 unfoldable pub end_answer : Handle → ℕ → FileRecord → EndAnswer
 end_answer h len r =

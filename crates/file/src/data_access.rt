@@ -1,17 +1,18 @@
-// Reading and writing, each at an explicit offset or at the pointer.
+// Reading and writing, each at an explicit offset or at the pointer: four calls with a contract each, which differ in offset, in what is lent to be written and in the pointer.
 ghost use Rattle.std.specs.Prelude.{◌≡◌};
+ghost use Rattle.view.specs.Parts.{refusal_number};
 ghost use Rattle.file.specs.Parts.{ReadAt, ReadNext, WriteAt, WriteNext, access_refused};
 
 use crate::{AccessAnswer, Handle};
-use handle::{Access, FileRecord, HandleNumbers};
-use view::Offset;
+use handle::{Access, FileRecord};
+use view::{Offset, Refusal};
 
 // A refused access: handle and record come back as they came.
-fn access_refused(refusal: u64, handle: Handle, rec: FileRecord) -> AccessAnswer
-    ensures { result ≡ access_refused refusal handle rec }
+fn access_refused(refusal: Refusal, handle: Handle, rec: FileRecord) -> AccessAnswer
+    ensures { result ≡ access_refused (refusal_number refusal) handle rec }
 {
     AccessAnswer {
-        refusal: refusal,
+        refusal: refusal.number(),
         count: 0,
         handle: handle,
         file: rec,
@@ -30,30 +31,18 @@ impl Handle {
     ) -> AccessAnswer
         ensures { ReadAt self file.now rec o.0 count buf.old buf.new result }
     {
-        let h = HandleNumbers {
-            mode: self.mode,
-            pointer: self.pointer,
-            view: self.view.numbers,
-        };
         let access = Access {
             offset: o,
             count: count,
         };
-        let done = call_access::read(
-            h,
-            &self.view.widths,
-            &self.view.displacements,
-            &self.view.origins,
-            file,
-            rec,
-            access,
-            buf,
-        );
-        AccessAnswer {
-            refusal: done.refusal,
-            count: done.count,
-            handle: self,
-            file: rec,
+        match call_access::read(self.lent(), file, rec, access, buf) {
+            Ok(moved) => AccessAnswer {
+                refusal: 0,
+                count: moved,
+                handle: self,
+                file: rec,
+            },
+            Err(refusal) => access_refused(refusal, self, rec),
         }
     }
 
@@ -65,30 +54,17 @@ impl Handle {
             offset: self.pointer_offset(),
             count: count,
         };
-        let h = HandleNumbers {
-            mode: self.mode,
-            pointer: self.pointer,
-            view: self.view.numbers,
-        };
-        let done = call_access::read(
-            h,
-            &self.view.widths,
-            &self.view.displacements,
-            &self.view.origins,
-            file,
-            rec,
-            access,
-            buf,
-        );
-        if done.refusal != 0 {
-            return access_refused(done.refusal, self, rec);
-        }
-        self.pointer = self.pointer + done.count;
-        AccessAnswer {
-            refusal: 0,
-            count: done.count,
-            handle: self,
-            file: rec,
+        match call_access::read(self.lent(), file, rec, access, buf) {
+            Ok(moved) => {
+                self.pointer = self.pointer + moved;
+                AccessAnswer {
+                    refusal: 0,
+                    count: moved,
+                    handle: self,
+                    file: rec,
+                }
+            }
+            Err(refusal) => access_refused(refusal, self, rec),
         }
     }
 
@@ -103,31 +79,18 @@ impl Handle {
     ) -> AccessAnswer
         ensures { WriteAt self file.old file.new rec o.0 count buf.now result }
     {
-        let h = HandleNumbers {
-            mode: self.mode,
-            pointer: self.pointer,
-            view: self.view.numbers,
-        };
         let access = Access {
             offset: o,
             count: count,
         };
-        let done = call_access::write(
-            h,
-            &self.view.widths,
-            &self.view.displacements,
-            &self.view.origins,
-            file,
-            rec,
-            access,
-            buf,
-        );
-        let grown = done.file;
-        AccessAnswer {
-            refusal: done.refusal,
-            count: done.count,
-            handle: self,
-            file: grown,
+        match call_access::write(self.lent(), file, rec, access, buf) {
+            Ok(grown) => AccessAnswer {
+                refusal: 0,
+                count: count,
+                handle: self,
+                file: grown,
+            },
+            Err(refusal) => access_refused(refusal, self, rec),
         }
     }
 
@@ -139,31 +102,17 @@ impl Handle {
             offset: self.pointer_offset(),
             count: count,
         };
-        let h = HandleNumbers {
-            mode: self.mode,
-            pointer: self.pointer,
-            view: self.view.numbers,
-        };
-        let done = call_access::write(
-            h,
-            &self.view.widths,
-            &self.view.displacements,
-            &self.view.origins,
-            file,
-            rec,
-            access,
-            buf,
-        );
-        let grown = done.file;
-        if done.refusal != 0 {
-            return access_refused(done.refusal, self, grown);
-        }
-        self.pointer = self.pointer + count;
-        AccessAnswer {
-            refusal: 0,
-            count: count,
-            handle: self,
-            file: grown,
+        match call_access::write(self.lent(), file, rec, access, buf) {
+            Ok(grown) => {
+                self.pointer = self.pointer + count;
+                AccessAnswer {
+                    refusal: 0,
+                    count: count,
+                    handle: self,
+                    file: grown,
+                }
+            }
+            Err(refused) => access_refused(refused, self, rec),
         }
     }
 }

@@ -1,5 +1,5 @@
 //! The file handle and its calls: open, setting and getting a view, byte offset, reverse lookup, end of file, seek, and reading and writing at an explicit offset or at the pointer.
-//! A call takes the handle by value and hands it back with the answer; a file is a lent run of bytes with a record by value.
+//! A call takes the handle by value and hands it back with the answer; a file is a lent run of bytes with a record by value. The two come apart, since the record comes back in the answer while the bytes are only lent.
 //! What each call answers, and what it leaves in everything lent, is defined in specs/. The calls stand in a module each for opening, views, places, the pointer, and data.
 #![tactic(auto)]
 
@@ -10,10 +10,13 @@ mod seeking;
 mod view_setting;
 
 ghost use Rattle.std.specs.Prelude.{◌≡◌};
+ghost use Rattle.handle.specs.Parts.{lent_handle};
 ghost use Rattle.file.specs.Constants.{constants_on_paper};
+ghost use Rattle.file.specs.Handles.{on_paper};
 
 pub use handle::FileRecord;
-use view::{BytePos, Named, Offset, Owner, View};
+use handle::HandleRef;
+use view::{BytePos, Named, Offset, Pair, View};
 
 // A handle's constants, each group in the order in which they are declared below.
 #[derive(Clone, Copy)]
@@ -53,7 +56,7 @@ impl Handle {
 
     pub const SEEK_END: u64 = call_query::WHENCE_END;
 
-    // The refusal numbers of documents 01 and 02, in their order.
+    // The refusal numbers of documents 01 and 02, in their order: View's again, since callers name them on the handle, and `constants_on_paper` states them.
     pub const REFUSED_HANDLE: u64 = View::REFUSED_HANDLE;
 
     pub const REFUSED_REPRESENTATION: u64 = View::REFUSED_REPRESENTATION;
@@ -90,6 +93,17 @@ impl Handle {
     pub const REFUSED_GROUP: u64 = View::REFUSED_GROUP;
 
     pub const REFUSED_ORIGIN: u64 = View::REFUSED_ORIGIN;
+
+    // The handle as calls take it, with its view lent.
+    fn lent(&self) -> HandleRef
+        ensures { lent_handle result ≡ on_paper self.now }
+    {
+        HandleRef {
+            mode: self.mode,
+            pointer: self.pointer,
+            view: &self.view,
+        }
+    }
 
     // Every constant above; the contract says that they are the papers' numbers.
     pub fn constants() -> Constants
@@ -130,6 +144,7 @@ impl Handle {
 
 // The answers, one type for each call: the refusal number, 0 if granted, the count, the handle, the file record where the call has one, and what else the call answers.
 // Reads and writes, at an explicit offset or at the pointer, share a type.
+// The refusal is the papers' number, and no Result: the definitions of the calls (`byte_offset_answer` and the others), the claims and the table of figures state it, and a refused call hands the handle back too.
 
 #[derive(Clone, Copy)]
 pub struct OpenAnswer {
@@ -147,7 +162,7 @@ pub struct SetViewAnswer {
     pub named: Named,
 }
 
-// How many entries a type has, and its extent.
+// How many entries a type has, and its extent. No `view::Filetype`, which counts instances.
 #[derive(Clone, Copy)]
 pub struct TypeShape {
     pub entries: u64,
@@ -180,7 +195,7 @@ pub struct ReverseAnswer {
     pub refusal: u64,
     pub count: u64,
     pub handle: Handle,
-    pub owner: Owner,
+    pub owner: Option<Pair>,
 }
 
 // Of document 01's "end of file".
@@ -193,6 +208,7 @@ pub struct EndAnswer {
     pub end: Offset,
 }
 
+// Of a seek; `seek_answer` and `SeekAnswered` are stated of it.
 #[derive(Clone, Copy)]
 pub struct SeekAnswer {
     pub refusal: u64,

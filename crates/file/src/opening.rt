@@ -4,7 +4,7 @@ ghost use Rattle.file.specs.Parts.{fresh_handle, open_answer, open_as};
 ghost use Rattle.file.specs.Handles.{mode_got};
 
 use crate::{Handle, OpenAnswer};
-use view::View;
+use view::{Refusal, View};
 
 fn open_answer(refusal: u64, handle: Handle) -> OpenAnswer
     ensures { result ≡ open_as refusal handle }
@@ -46,7 +46,7 @@ impl Handle {
     {
         if Handle::MODE_BOTH < mode {
             return open_answer(
-                Handle::REFUSED_OPEN_MODE,
+                Refusal::OpenMode.number(),
                 Handle::fresh(Handle::MODE_UNNAMED),
             );
         }

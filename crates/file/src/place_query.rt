@@ -1,9 +1,9 @@
-// Where things lie in a handle's view: document 01's place query, reverse lookup and end of file.
+// Where things lie in a handle's view: document 01's place query, reverse lookup and end of file. Each arm writes its answer whole, so that a refused one is read at sight.
 ghost use Rattle.std.specs.Prelude.{◌≡◌, length};
 ghost use Rattle.file.specs.Parts.{byte_offset_answer, reverse_answer, end_answer};
 
 use crate::{ByteOffsetAnswer, EndAnswer, Handle, ReverseAnswer};
-use handle::{FileNumbers, FileRecord, HandleNumbers};
+use handle::{FileNumbers, FileRecord};
 use view::{BytePos, Offset};
 
 impl Handle {
@@ -11,24 +11,19 @@ impl Handle {
     pub fn byte_offset(self, o: Offset) -> ByteOffsetAnswer
         ensures { result ≡ byte_offset_answer self o.0 }
     {
-        let h = HandleNumbers {
-            mode: self.mode,
-            pointer: self.pointer,
-            view: self.view.numbers,
-        };
-        let found = call_query::byte_offset(
-            h,
-            &self.view.widths,
-            &self.view.displacements,
-            &self.view.origins,
-            o,
-        );
-        let place = found.place;
-        ByteOffsetAnswer {
-            refusal: found.refusal,
-            count: 0,
-            handle: self,
-            place: place,
+        match call_query::byte_offset(self.lent(), o) {
+            Ok(place) => ByteOffsetAnswer {
+                refusal: 0,
+                count: 0,
+                handle: self,
+                place: place,
+            },
+            Err(refusal) => ByteOffsetAnswer {
+                refusal: refusal.number(),
+                count: 0,
+                handle: self,
+                place: BytePos(0),
+            },
         }
     }
 
@@ -36,24 +31,19 @@ impl Handle {
     pub fn reverse(self, byte: BytePos) -> ReverseAnswer
         ensures { result ≡ reverse_answer self byte.0 }
     {
-        let h = HandleNumbers {
-            mode: self.mode,
-            pointer: self.pointer,
-            view: self.view.numbers,
-        };
-        let found = call_query::reverse(
-            h,
-            &self.view.widths,
-            &self.view.displacements,
-            &self.view.origins,
-            byte,
-        );
-        let owner = found.owner;
-        ReverseAnswer {
-            refusal: found.refusal,
-            count: 0,
-            handle: self,
-            owner: owner,
+        match call_query::reverse(self.lent(), byte) {
+            Ok(owner) => ReverseAnswer {
+                refusal: 0,
+                count: 0,
+                handle: self,
+                owner: owner,
+            },
+            Err(refusal) => ReverseAnswer {
+                refusal: refusal.number(),
+                count: 0,
+                handle: self,
+                owner: None,
+            },
         }
     }
 
@@ -61,29 +51,25 @@ impl Handle {
     pub fn end(self, file: &[u8], rec: FileRecord) -> EndAnswer
         ensures { result ≡ end_answer self (length file.now) rec }
     {
-        let h = HandleNumbers {
-            mode: self.mode,
-            pointer: self.pointer,
-            view: self.view.numbers,
-        };
         let f = FileNumbers {
             length: file.len() as u64,
             record: rec,
         };
-        let found = call_query::end(
-            h,
-            &self.view.widths,
-            &self.view.displacements,
-            &self.view.origins,
-            f,
-        );
-        let end = found.end;
-        EndAnswer {
-            refusal: found.refusal,
-            count: 0,
-            handle: self,
-            file: rec,
-            end: end,
+        match call_query::end(self.lent(), f) {
+            Ok(end) => EndAnswer {
+                refusal: 0,
+                count: 0,
+                handle: self,
+                file: rec,
+                end: end,
+            },
+            Err(refusal) => EndAnswer {
+                refusal: refusal.number(),
+                count: 0,
+                handle: self,
+                file: rec,
+                end: Offset(0),
+            },
         }
     }
 }

@@ -1,17 +1,18 @@
 // The individual file pointer: seek.
 ghost use Rattle.std.specs.Prelude.{◌≡◌, length};
+ghost use Rattle.view.specs.Parts.{refusal_number};
 ghost use Rattle.file.specs.Parts.{pointer_offset, seek_refused, seek_answer};
 
 use crate::{Handle, SeekAnswer};
-use handle::{FileNumbers, FileRecord, HandleNumbers};
-use view::Offset;
+use handle::{FileNumbers, FileRecord};
+use view::{Offset, Refusal};
 
 // A refused seek: handle and record come back as they came.
-fn seek_refused(refusal: u64, handle: Handle, rec: FileRecord) -> SeekAnswer
-    ensures { result ≡ seek_refused refusal handle rec }
+fn seek_refused(refusal: Refusal, handle: Handle, rec: FileRecord) -> SeekAnswer
+    ensures { result ≡ seek_refused (refusal_number refusal) handle rec }
 {
     SeekAnswer {
-        refusal: refusal,
+        refusal: refusal.number(),
         count: 0,
         handle: handle,
         file: rec,
@@ -33,33 +34,21 @@ impl Handle {
     pub fn seek(mut self, file: &[u8], rec: FileRecord, by: i64, whence: u64) -> SeekAnswer
         ensures { result ≡ seek_answer self (length file.now) rec by whence }
     {
-        let h = HandleNumbers {
-            mode: self.mode,
-            pointer: self.pointer,
-            view: self.view.numbers,
-        };
         let f = FileNumbers {
             length: file.len() as u64,
             record: rec,
         };
-        let sought = call_query::seek(
-            h,
-            &self.view.widths,
-            &self.view.displacements,
-            &self.view.origins,
-            f,
-            by,
-            whence,
-        );
-        if sought.refusal != 0 {
-            return seek_refused(sought.refusal, self, rec);
-        }
-        self.pointer = sought.pointer;
-        SeekAnswer {
-            refusal: 0,
-            count: 0,
-            handle: self,
-            file: rec,
+        match call_query::seek(self.lent(), f, by, whence) {
+            Ok(pointer) => {
+                self.pointer = pointer;
+                SeekAnswer {
+                    refusal: 0,
+                    count: 0,
+                    handle: self,
+                    file: rec,
+                }
+            }
+            Err(refusal) => seek_refused(refusal, self, rec),
         }
     }
 }

@@ -2,17 +2,19 @@
 ghost use Rattle.std.specs.Prelude.{◌≡◌};
 ghost use Rattle.view.specs.Types.{paper, view_of_lists, typemaps};
 ghost use Rattle.view.specs.Acceptance.{Valid};
+ghost use Rattle.view.specs.Parts.{refusal_number};
 ghost use Rattle.file.specs.Parts.{set_view_answer, get_view_as, GetViewDone, set_view_as};
 
 use crate::{GetViewAnswer, Handle, SetViewAnswer, TypeShape};
-use handle::HandleNumbers;
-use view::Named;
+use view::{Named, Refusal, Refused};
 
-fn set_view_answer(refusal: u64, handle: Handle, named: Named) -> SetViewAnswer
-    ensures { result ≡ set_view_as refusal handle named }
+// A refused set: the handle comes back as it came.
+fn set_view_refused(refused: Refused, handle: Handle) -> SetViewAnswer
+    ensures { result ≡ set_view_as (refusal_number refused.refusal) handle refused.named }
 {
+    let named = refused.named;
     SetViewAnswer {
-        refusal: refusal,
+        refusal: refused.refusal.number(),
         count: 0,
         handle: handle,
         named: named,
@@ -29,21 +31,11 @@ fn shape(entries: u64, extent: u64) -> TypeShape
     }
 }
 
-// The answer of giving back: both entry counts, both extents and the displacement of the handle's view, and zeros where it is refused.
-fn get_view_answer(refusal: u64, handle: Handle) -> GetViewAnswer
-    requires { refusal ≡ 0 → Valid (paper handle.view) }
-    ensures { result ≡ get_view_as refusal handle }
+// The answer of a giving back that is granted: both entry counts, both extents and the displacement of the handle's view.
+fn get_view_granted(handle: Handle) -> GetViewAnswer
+    requires { Valid (paper handle.view) }
+    ensures { result ≡ get_view_as 0 handle }
 {
-    if refusal != 0 {
-        return GetViewAnswer {
-            refusal: refusal,
-            count: 0,
-            handle: handle,
-            displacement: 0,
-            etype: shape(0, 0),
-            filetype: shape(0, 0),
-        };
-    }
     let entries = handle.view.numbers.etype.entries;
     let all = handle.view.numbers.filetype.instances * entries;
     GetViewAnswer {
@@ -53,6 +45,20 @@ fn get_view_answer(refusal: u64, handle: Handle) -> GetViewAnswer
         displacement: handle.view.numbers.displacement,
         etype: shape(entries, handle.view.numbers.etype.extent),
         filetype: shape(all, handle.view.numbers.filetype.extent),
+    }
+}
+
+// One that is refused: zeros.
+fn get_view_refused(refusal: Refusal, handle: Handle) -> GetViewAnswer
+    ensures { result ≡ get_view_as (refusal_number refusal) handle }
+{
+    GetViewAnswer {
+        refusal: refusal.number(),
+        count: 0,
+        handle: handle,
+        displacement: 0,
+        etype: shape(0, 0),
+        filetype: shape(0, 0),
     }
 }
 
@@ -72,30 +78,23 @@ impl Handle {
         ensures { result ≡ set_view_answer self representation.now
             (view_of_lists displacement ew.now ed.now ex fw.now fd.now fx) }
     {
-        let h = HandleNumbers {
-            mode: self.mode,
-            pointer: self.pointer,
-            view: self.view.numbers,
-        };
-        let valid = call_checks::handle_valid(
-            h,
-            &self.view.widths,
-            &self.view.displacements,
-            &self.view.origins,
-        );
-        if !valid {
-            return set_view_answer(Handle::REFUSED_HANDLE, self, Named::Nothing);
+        if !call_checks::handle_valid(self.lent()) {
+            return set_view_refused(Refused::unnamed(Refusal::Handle), self);
         }
         let mode = self.mode;
-        let made = rule_set::accept(mode, representation, displacement, ew, ed, ex, fw, fd, fx);
-        if made.refusal != 0 {
-            let named = made.named;
-            return set_view_answer(made.refusal, self, named);
+        match rule_set::accept(mode, representation, displacement, ew, ed, ex, fw, fd, fx) {
+            Ok(view) => {
+                self.view = view;
+                self.pointer = 0;
+                SetViewAnswer {
+                    refusal: 0,
+                    count: 0,
+                    handle: self,
+                    named: Named::Nothing,
+                }
+            }
+            Err(refused) => set_view_refused(refused, self),
         }
-        let view = made.view;
-        self.view = view;
-        self.pointer = 0;
-        set_view_answer(0, self, Named::Nothing)
     }
 
     // Document 01's giving back: the view's typemaps at the front of the four lists, both entry counts, both extents and the displacement.
@@ -110,21 +109,9 @@ impl Handle {
             (typemaps ew.old ed.old fw.old fd.old)
             (typemaps ew.new ed.new fw.new fd.new) result }
     {
-        let h = HandleNumbers {
-            mode: self.mode,
-            pointer: self.pointer,
-            view: self.view.numbers,
-        };
-        let refusal = call_query::get_view(
-            h,
-            &self.view.widths,
-            &self.view.displacements,
-            &self.view.origins,
-            ew,
-            ed,
-            fw,
-            fd,
-        );
-        get_view_answer(refusal, self)
+        match call_query::get_view(self.lent(), ew, ed, fw, fd) {
+            Ok(()) => get_view_granted(self),
+            Err(refusal) => get_view_refused(refusal, self),
+        }
     }
 }

@@ -1,8 +1,11 @@
 -- Laws of the ranges: what callers get of them, and how the code tests them.
 use Rattle.laws.proofs.Prelude.{minus_negative, ℕ, suc, ◌+◌, ◌-◌, ◌*◌, ◌≤◌, ◌<◌, ◌≡◌, refl, sym, ap, ◌∙◌, Bool, true, false, not, true≢false, ⊎_elim, arith, mul-le-mul, ℤ, pos, negsuc, nat_abs, sub_ℕ, ◌+ℤ◌, ◌-ℤ◌, leb, lt_z, w64, Fits, SFits, to_z, of_z, to_z-of_z, rules, ltb-true, leb-true, le-ltb, lt-ltb, le-leb, lt-leb, not_both, lt_or_le, unflag_true}
+use Rattle.std.proofs.Common.{Option, Some, None}
+use Rattle.std.specs.Prelude.{unsigned_abs}
+use Rattle.std.specs.Int.{FitsUnsigned}
+use Rattle.std.proofs.lemmas.Int.{ints}
 use Rattle.view.specs.Limits.{offset_allowed, pointer_allowed}
 use Rattle.view.specs.Types.{whole}
-use Rattle.handle.specs.declared.Target.{Target}
 use Rattle.handle.specs.Ranges.{target_allowed, access_allowed}
 use Rattle.handle.specs.Parts.{target_at}
 
@@ -89,81 +92,40 @@ pub ruleset standing = (rules, offset_negative, offset_last)
 
 -- ---- a seek's target
 
-target_high : (p : ℕ) → 4294967296 < p → ◌≡◌ {A = Target} (record { allowed = false; pointer = 0 }) (target_at (pos p))
+-- ---- a seek's target, by whether the sum is one of 64 bits
+
+none_fits : (t : ℤ) → (FitsUnsigned w64 t → ⊥) → None ≡ target_at t
 unfolding target_at target_allowed pointer_allowed
-target_high p l = rw (lt-leb p 4294967296 l)
+none_fits (pos n) f = ⊎_elim
+    (λ l. rw (lt-leb n 4294967296 l))
+    (λ l. absurd (f (omega (arith, ints), omega (arith, ints))))
+    (lt_or_le 4294967296 n)
+none_fits (negsuc n) f = refl
 
-pub base_high : (base by : ℕ) → 4294967296 < base → ◌≡◌ {A = Target} (record { allowed = false; pointer = 0 }) (target_at (pos (base + by)))
-base_high base by l = target_high (base + by) (omega arith)
+high_fits : (t : ℤ) (p : ℕ) → FitsUnsigned w64 t → p ≡ unsigned_abs t → 4294967296 < p → None ≡ target_at t
+unfolding target_at target_allowed pointer_allowed
+high_fits (pos n) p f e l = rw (lt-leb n 4294967296 (omega arith))
+high_fits (negsuc n) p f e l = refl
 
-pub sum_high : (base by : ℕ) → base ≤ 4294967296 → 4294967296 - base < by → ◌≡◌ {A = Target} (record { allowed = false; pointer = 0 }) (target_at (pos (base + by)))
-sum_high base by h l = target_high (base + by) (omega arith)
-
-pub sum_within : (base by : ℕ) → base ≤ 4294967296 → by ≤ 4294967296 - base → ◌≡◌ {A = Target} (record { allowed = true; pointer = base + by }) (target_at (pos (base + by)))
+within_fits : (t : ℤ) (p : ℕ) → FitsUnsigned w64 t → p ≡ unsigned_abs t → p ≤ 4294967296 → Some p ≡ target_at t
 unfolding target_at target_allowed pointer_allowed whole
-sum_within base by h l = rw (le-leb (base + by) 4294967296 (omega arith))
+within_fits (pos n) p f e l = rw (le-leb n 4294967296 (omega arith)) (ap Some e)
+within_fits (negsuc n) p f e l = absurd (omega (arith, f.0))
 
-pub ruleset raising = (rules, base_high, sum_high, sum_within)
+-- the machine's reading of each number's bits is the number
+module _ (o z : ℤ) (g : SFits w64 o) (f : SFits w64 z) (n : ℕ) (b : n ≡ whole (to_z w64 (of_z w64 o))) where
+  sum_is : pos n +ℤ to_z w64 (of_z w64 z) ≡ pos (whole o) +ℤ z
+  sum_is = ap (λ (x : ℤ). pos n +ℤ x) (to_z-of_z f) ∙ ap (λ (m : ℕ). pos m +ℤ z) (b ∙ ap whole (to_z-of_z g))
 
-pub below_zero : (base by : ℕ) → base < by → ◌≡◌ {A = Target} (record { allowed = false; pointer = 0 }) (target_at (sub_ℕ base by))
-unfolding target_at target_allowed
-below_zero base by l = rw (lt-ltb base by l)
+  pub sought_none : (FitsUnsigned w64 (pos n +ℤ to_z w64 (of_z w64 z)) → ⊥) → None ≡ target_at (pos (whole o) +ℤ z)
+  sought_none k = none_fits _ (rw sum_is at k)
 
-pub lower_is : (base by : ℕ) (t : Target) → by ≤ base → t ≡ target_at (pos (base - by + 0)) → t ≡ target_at (sub_ℕ base by)
-lower_is base by t l e = rw (le-ltb base by l) (e ∙ ap (λ (n : ℕ). target_at (pos n)) (omega arith))
+  module _ (p : ℕ) (k : FitsUnsigned w64 (pos n +ℤ to_z w64 (of_z w64 z)) × (p ≡ unsigned_abs (pos n +ℤ to_z w64 (of_z w64 z)))) where
+    pub sought_high : 4294967296 < p → None ≡ target_at (pos (whole o) +ℤ z)
+    sought_high l = let q = rw sum_is at k in high_fits _ p q.0 q.1 l
 
-pub ruleset lowering = (rules, below_zero, lower_is)
-
--- ---- how far a negative number lies below 0
-
-less_fits : (z : ℤ) → SFits w64 z → lt_z z (pos 0) ≡ true → SFits w64 (negsuc 0 -ℤ z)
-less_fits (pos n) f h = absurd (omega (arith, ltb-true n 0 h))
-less_fits (negsuc n) f h = rw (minus_negative n) (record { sfits = omega (arith, f.sfits) })
-
-less_whole : (z : ℤ) (n : ℕ) → lt_z z (pos 0) ≡ true → n ≡ whole (negsuc 0 -ℤ z) → n + 1 ≡ nat_abs z
-unfolding whole
-less_whole (pos k) n h e = absurd (omega (arith, ltb-true k 0 h))
-less_whole (negsuc k) n h e = omega (arith, e ∙ ap whole (minus_negative k))
-
-small_magnitude : (z : ℤ) → SFits w64 z → nat_abs z ≤ 9223372036854775808
-small_magnitude (pos n) f = omega (arith, f.sfits)
-small_magnitude (negsuc n) f = omega (arith, f.sfits)
-
-module _ (z : ℤ) (f : SFits w64 z) (h : lt_z z (pos 0) ≡ true) where
-  pub less_one_fits : SFits w64 (negsuc 0 -ℤ to_z w64 (of_z w64 z))
-  less_one_fits = rw (to_z-of_z f) (less_fits z f h)
-
-  module _ (n : ℕ) (e : n ≡ whole (to_z w64 (of_z w64 (negsuc 0 -ℤ to_z w64 (of_z w64 z))))) where
-    pub magnitude_is : n + 1 ≡ nat_abs z
-    magnitude_is = less_whole z n h (e ∙ ap whole (to_z-of_z less_one_fits ∙ ap (λ (x : ℤ). negsuc 0 -ℤ x) (to_z-of_z f)))
-
-    pub magnitude_fits : Fits w64 (n + 1)
-    magnitude_fits = record { fits = omega (arith, magnitude_is, small_magnitude z f) }
-
-pub ruleset measuring = (rules, less_one_fits, magnitude_is, magnitude_fits)
-
--- ---- a seek, by the sign
-
-seek_below : (base m : ℕ) (z : ℤ) → m ≡ nat_abs z → lt_z z (pos 0) ≡ true → target_at (sub_ℕ base m) ≡ target_at (pos base +ℤ z)
-seek_below base m (pos n) e h = absurd (omega (arith, ltb-true n 0 h))
-seek_below base m (negsuc n) e h = ap (λ (x : ℕ). target_at (sub_ℕ base x)) e
-
-seek_above : (base m : ℕ) (z : ℤ) → m ≡ whole z → lt_z z (pos 0) ≡ false → target_at (pos (base + m)) ≡ target_at (pos base +ℤ z)
-unfolding whole
-seek_above base m (pos n) e h = ap (λ (x : ℕ). target_at (pos (base + x))) e
-seek_above base m (negsuc n) e h = absurd (true≢false h)
-
-module _ (o : ℤ) (base : ℕ) (g : SFits w64 o) (b : base ≡ whole (to_z w64 (of_z w64 o))) (m : ℕ) (z : ℤ) (t : Target) (f : SFits w64 z) where
-  from : target_at (pos base +ℤ z) ≡ target_at (pos (whole o) +ℤ z)
-  from = ap (λ (n : ℕ). target_at (pos n +ℤ z)) (b ∙ ap whole (to_z-of_z g))
-
-  pub sought_below : m ≡ nat_abs (to_z w64 (of_z w64 z)) → lt_z (to_z w64 (of_z w64 z)) (pos 0) ≡ true → t ≡ target_at (sub_ℕ base m) → t ≡ target_at (pos (whole o) +ℤ z)
-  sought_below e h q = q ∙ seek_below base m z (e ∙ ap nat_abs (to_z-of_z f)) (rw (to_z-of_z f) at h) ∙ from
-
-  pub sought_above : m ≡ whole (to_z w64 (of_z w64 z)) → lt_z (to_z w64 (of_z w64 z)) (pos 0) ≡ false → t ≡ target_at (pos (base + m)) → t ≡ target_at (pos (whole o) +ℤ z)
-  sought_above e h q = q ∙ seek_above base m z (e ∙ ap whole (to_z-of_z f)) (rw (to_z-of_z f) at h) ∙ from
-
-pub ruleset seeking = (rules, sought_below, sought_above)
+    pub sought_within : p ≤ 4294967296 → Some p ≡ target_at (pos (whole o) +ℤ z)
+    sought_within l = let q = rw sum_is at k in within_fits _ p q.0 q.1 l
 
 -- ---- products
 

@@ -1,23 +1,21 @@
-//! What calls take of a handle and of a file, and an access, as numbers; the limits that these keep by themselves, where a seek goes, and the room of four lists. No sum, product or difference wraps.
+//! What calls take of a handle and of a file, and an access; the limits that these keep by themselves, where a seek goes, and the room of four lists. No sum, product or difference wraps.
 #![tactic(auto)]
 
-ghost use Rattle.std.specs.Prelude.{true, ◌≡◌, ◌+◌, ◌≤◌, pos, nat_abs, ◌+ℤ◌};
-ghost use Rattle.std.proofs.Math.IntN.{sub_ℕ};
-ghost use Rattle.std.specs.Int.Signed.{lt_z};
+ghost use Rattle.std.specs.Prelude.{◌≡◌, ◌+◌, ◌≤◌, pos, ◌+ℤ◌};
 ghost use Rattle.view.specs.Parts.{max_etype_entries, max_instances};
 ghost use Rattle.view.specs.Limits.{offset_allowed, file_allowed};
 ghost use Rattle.view.specs.Types.{whole};
 ghost use Rattle.handle.specs.Ranges.{access_allowed};
 ghost use Rattle.handle.specs.Parts.{target_at, lists_long};
 
-use view::{Numbers, Offset, View};
+use view::{Offset, View};
 
-// The numbers of a handle: the mode of the open, the individual file pointer, and the view's. A function that needs a handle takes these by value and borrows the view's lists.
+// A handle as calls take it: the mode of the open, the individual file pointer, and the view, which is lent, so that no call copies it.
 #[derive(Clone, Copy)]
-pub struct HandleNumbers {
+pub struct HandleRef<'a> {
     pub mode: u64,
     pub pointer: u64,
-    pub view: Numbers,
+    pub view: &'a View,
 }
 
 // What is recorded of a file beside its bytes: its size.
@@ -77,13 +75,6 @@ impl Access {
     }
 }
 
-// Where a seek goes: whether the pointer may stand there, and the pointer if so, else 0.
-#[derive(Clone, Copy)]
-pub struct Target {
-    pub allowed: bool,
-    pub pointer: u64,
-}
-
 // Whether an etype may stand at `o`.
 pub fn offset_allowed(o: Offset) -> bool
     ensures { result ≡ offset_allowed o.0 }
@@ -94,69 +85,24 @@ pub fn offset_allowed(o: Offset) -> bool
     view::natural(o.0) <= View::MAX_OFFSET
 }
 
-// How far a negative number lies below 0. The smallest one has no negation, but the one above it has.
-fn magnitude(by: i64) -> u64
-    requires { lt_z by (pos 0) ≡ true }
-    ensures { result ≡ nat_abs by }
-{
-    let less_one = view::natural(-1 - by);
-    less_one + 1
-}
-
-// The target `by` above `base`.
-fn target_above(base: u64, by: u64) -> Target
-    ensures { result ≡ target_at (pos (base + by)) }
-{
-    if View::OFFSET_COUNT < base {
-        return Target {
-            allowed: false,
-            pointer: 0,
-        };
-    }
-    if View::OFFSET_COUNT - base < by {
-        return Target {
-            allowed: false,
-            pointer: 0,
-        };
-    }
-    Target {
-        allowed: true,
-        pointer: base + by,
-    }
-}
-
-// The target `by` below `base`.
-fn target_below(base: u64, by: u64) -> Target
-    ensures { result ≡ target_at (sub_ℕ base by) }
-{
-    if base < by {
-        return Target {
-            allowed: false,
-            pointer: 0,
-        };
-    }
-    target_above(base - by, 0)
-}
-
-// The target of a seek by `by`, which may be negative, from `base`.
-pub fn target_of(base: Offset, by: i64) -> Target
+// Where a seek by `by`, which may be negative, from `base` puts the pointer; none if it may not stand there.
+pub fn target_of(base: Offset, by: i64) -> Option<u64>
     ensures { result ≡ target_at (pos (whole base.0) +ℤ by) }
 {
-    let from = view::natural(base.0);
-    if by < 0 {
-        target_below(from, magnitude(by))
-    } else {
-        target_above(from, view::natural(by))
+    let pointer = view::natural(base.0).checked_add_signed(by)?;
+    if View::OFFSET_COUNT < pointer {
+        return None;
     }
+    Some(pointer)
 }
 
-// Check 13 of giving back: whether the four lists, by their lengths, have room for the entries of a view's etype and filetype. For our own crates.
-pub fn lists_long(v: Numbers, ew: u64, ed: u64, fw: u64, fd: u64) -> bool
-    requires { (v.etype.entries ≤ max_etype_entries) × (v.filetype.instances ≤ max_instances) }
-    ensures { result ≡ lists_long v.etype.entries v.filetype.instances ew ed fw fd }
+// Check 13 of giving back: whether the four lists, by their lengths, one by one as `Handle::get_view` has them, have room for the entries of a view's etype and filetype. For our own crates.
+pub fn lists_long(view: &View, ew: u64, ed: u64, fw: u64, fd: u64) -> bool
+    requires { (view.now.numbers.etype.entries ≤ max_etype_entries) × (view.now.numbers.filetype.instances ≤ max_instances) }
+    ensures { result ≡ lists_long view.now.numbers.etype.entries view.now.numbers.filetype.instances ew ed fw fd }
 {
-    let n = v.etype.entries;
-    let all = v.filetype.instances * n;
+    let n = view.numbers.etype.entries;
+    let all = view.numbers.filetype.instances * n;
     if ew < n {
         return false;
     }

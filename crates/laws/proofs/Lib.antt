@@ -5,5 +5,6 @@ pub mod Stores
 pub mod Quotients
 pub mod Runs
 pub mod Turns
+pub mod Orders
 pub mod Signs
 pub mod Prelude

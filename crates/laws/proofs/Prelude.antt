@@ -30,3 +30,4 @@ pub use Rattle.laws.proofs.Sums.{Highest, greatest_above, greatest_least, greate
 pub use Rattle.laws.proofs.Runs.{front_part, prefix, store_run, tail_back, tail_lent, take_front, upto}
 pub use Rattle.laws.proofs.Turns.{InTurn, turn_later, turn_lowest, turn_within}
 pub use Rattle.laws.proofs.Signs.{minus_negative, natural_fits, natural_sign, not_negative}
+pub use Rattle.laws.proofs.Orders.{max_is, min_is}

@@ -1,6 +1,6 @@
 -- The end of a write, from its last offsets alone: each earlier offset is the same instance of an earlier tile than one of them, and so lies before it.
 -- That places rise with the offset is not used.
-use Rattle.laws.proofs.Prelude.{ℕ, suc, ◌+◌, ◌-◌, ◌*◌, ◌/◌, ◌%◌, ◌≤◌, ◌<◌, min, max, ◌≡◌, sym, ap, ◌∙◌, true, arith, add-mul, add-mul-div_right, add-mul-mod_self_right, div-mul-le_self, lt-div-mul-add, mod-lt, min-le_left, ℤ, pos, w64, Fits, to_z, of_z, lt-ltb, greatest, nth, run_below, runs_below, greatest_above, greatest_least}
+use Rattle.laws.proofs.Prelude.{ℕ, ◌+◌, ◌-◌, ◌*◌, ◌/◌, ◌%◌, ◌≤◌, ◌<◌, min, max, ◌≡◌, refl, sym, ap, ◌∙◌, true, arith, add-one, add-mul, add-mul-div_right, add-mul-mod_self_right, div-mul-le_self, lt-div-mul-add, mod-lt, min-le_left, ℤ, pos, w64, Fits, to_z, of_z, lt-ltb, greatest, nth, run_below, runs_below, greatest_above, greatest_least}
 use Rattle.view.specs.declared.View.{View}
 use Rattle.view.specs.Limits.{offset_allowed}
 use Rattle.view.specs.Types.{PaperView, paper, whole, extent_of}
@@ -16,7 +16,7 @@ use Rattle.view.proofs.Held.{record_some}
 use Rattle.move_read.specs.Moves.{file_byte}
 use Rattle.move_read.specs.Parts.{write_end, Ranged}
 use Rattle.move_read.proofs.Etypes.{reach, entries_valid, data_before, data_last}
-use Rattle.move_read.proofs.Walking.{file_byte_run, Walking, walk_none, walk_more, walk_place, walk_end_fits, positive, begin_natural, last_bound}
+use Rattle.move_read.proofs.Walking.{file_byte_run, Walking, walk_none, walk_more, walk_place, walk_end_fits, positive, begin_natural}
 use Rattle.move_read.proofs.Writing.{write_end_none, write_end_only}
 
 -- the same instance, j tiles later
@@ -94,19 +94,19 @@ module _ (v : View) (k : Valid (paper v)) where
     tail_is : greatest ends t ≡ write_end (paper v) o c
     tail_is = write_end_only (paper v) o c (greatest ends t) (record { above = tail_above; smallest = tail_smallest })
 
--- ---- the walk over these offsets
+-- ---- the walk over these offsets, t from `from` on
 
--- of those before x, the greatest end; r is how far an etype reaches
-pub record Ending (v : View) (from last r x : ℕ) (s : Spot) (end : ℕ) : Type 0 where
-  pub walk : Walking v from last x s
+-- of the first k, the greatest end; r is how far an etype reaches
+pub record Ending (v : View) (from t r k : ℕ) (s : Spot) (end : ℕ) : Type 0 where
+  pub walk : Walking v from t k s
   pub reaches : r ≡ reach_of v.widths v.displacements v.numbers.etype.entries
-  pub is : end ≡ greatest (λ i. end_at v (from + i)) (x - from)
+  pub is : end ≡ greatest (λ i. end_at v (from + i)) k
 
 pub end_none : (v : View) (o c : ℕ) → c ≡ 0 → 0 ≡ write_end (paper v) o c
 end_none v o c e = sym (write_end_none (paper v) o) ∙ ap (write_end (paper v) o) (sym e)
 
 module _ (v : View) (o : ℤ) (c : ℕ) (h : Ranged v o c) (n : c ≡ 0 → ⊥) (t : ℕ) (e : t ≡ min c v.numbers.filetype.instances) where
-  pub tail_few : t ≤ c
+  tail_few : t ≤ c
   tail_few = omega (arith, min-le_left c v.numbers.filetype.instances)
 
   tail_some : 0 < t
@@ -114,47 +114,39 @@ module _ (v : View) (o : ℤ) (c : ℕ) (h : Ranged v o c) (n : c ≡ 0 → ⊥)
 
   module _ (first : ℕ) (read : first ≡ whole (to_z w64 (of_z w64 o))) where
     bound : first + (c - t) + t ≤ 4294967296
-    bound = omega (arith, last_bound v o c h n first read, tail_few)
-
-    pub from_fits : Fits w64 (first + (c - t))
-    from_fits = record { fits = omega (arith, bound) }
-
-    pub tail_fits : Fits w64 (first + (c - t) + t)
-    tail_fits = record { fits = omega (arith, bound) }
-
-    pub from_signed : first + (c - t) < 9223372036854775808
-    from_signed = omega (arith, bound)
+    bound = omega (arith, h.last, begin_natural v o c h n first read, tail_few)
 
     module _ (z : ℤ) (q : z ≡ pos (first + (c - t))) where
       pub from_allowed : offset_allowed z ≡ true
       unfolding offset_allowed
       from_allowed = rw q (lt-ltb (first + (c - t)) 4294967296 (omega (arith, bound, tail_some)))
 
-      pub ending_none : (s : Spot) → s ≡ spot_at v.numbers (whole z) → (r : ℕ) → r ≡ reach_of v.widths v.displacements v.numbers.etype.entries → Ending v (first + (c - t)) (first + (c - t) + t) r (first + (c - t)) s 0
+      pub ending_none : (s : Spot) → s ≡ spot_at v.numbers (whole z) → (r : ℕ) → r ≡ reach_of v.widths v.displacements v.numbers.etype.entries → Ending v (first + (c - t)) t r 0 s 0
       unfolding whole greatest
-      ending_none s at r reaches =
-          let d : first + (c - t) - (first + (c - t)) ≡ 0 = omega arith in
-          record { walk = walk_none v _ _ s h.valid bound (omega arith) (rw q at at); reaches = reaches; is = rw d }
+      ending_none s at r reaches = record {
+        walk = walk_none v _ t s h.valid bound (rw q at at);
+        reaches = reaches;
+        is = refl;
+      }
 
-    pub ending_end : (r x : ℕ) (s : Spot) (end : ℕ) → Ending v (first + (c - t)) (first + (c - t) + t) r x s end → first + (c - t) + t ≤ x → end ≡ write_end (paper v) (whole o) c
+    pub ending_end : (r k : ℕ) (s : Spot) (end : ℕ) → Ending v (first + (c - t)) t r k s end → t ≤ k → end ≡ write_end (paper v) (whole o) c
     unfolding ends
-    ending_end r x s end g l =
-        let d : x - (first + (c - t)) ≡ t = omega (arith, g.walk.reached) in
+    ending_end r k s end g l =
+        let d : k ≡ t = omega (arith, g.walk.reached) in
         let f = begin_natural v o c h n first read in
         let w : t ≡ min c (instances (paper v)) = e ∙ ap (min c) (sym (paper_instances v (omega (arith, (entries_valid v h.valid).some)))) in
         g.is ∙ ap (greatest (λ i. end_at v (first + (c - t) + i))) d ∙ tail_is v h.valid first c t w ∙ ap (λ (y : ℕ). write_end (paper v) y c) f
 
-pub ending_more : (v : View) (from last r x : ℕ) (s : Spot) (end : ℕ) → Ending v from last r x s end → x < last → (p : ℕ) → p ≡ s.tile.0 + nth v.origins s.instance → (m : ℕ) → m ≡ max end (p + r) → (s' : Spot) → s' ≡ next_spot s v.numbers.filetype.instances v.numbers.filetype.extent → Ending v from last r (x + 1) s' m
-unfolding greatest
-ending_more v from last r x s end g l p begins m e s' n =
-    let d : x + 1 - from ≡ suc (x - from) = omega (arith, g.walk.begun) in
-    let a : from + (x - from) ≡ x = omega (arith, g.walk.begun) in
-    let q : p + r ≡ place (paper v) (from + (x - from)) + reach v = omega (arith, g.reaches, walk_place v from last x s g.walk l p begins, ap (place (paper v)) a) in
-    record {
-      walk = walk_more v from last x s g.walk l s' n;
-      reaches = g.reaches;
-      is = rw d (e ∙ ap (λ (y : ℕ). max y (p + r)) g.is ∙ ap (max (greatest (λ i. end_at v (from + i)) (x - from))) q);
-    }
+module _ (v : View) (from t r k : ℕ) (s : Spot) (end : ℕ) (g : Ending v from t r k s end) (l : k < t) (p : ℕ) (begins : p ≡ s.tile.0 + nth v.origins s.instance) where
+  pub ending_fits : Fits w64 (p + r)
+  ending_fits = walk_end_fits v from t k s g.walk l p begins r g.reaches
 
-pub ending_fits : (v : View) (from last r x : ℕ) (s : Spot) (end : ℕ) → Ending v from last r x s end → x < last → (p : ℕ) → p ≡ s.tile.0 + nth v.origins s.instance → Fits w64 (p + r)
-ending_fits v from last r x s end g l p begins = walk_end_fits v from last x s g.walk l p begins r g.reaches
+  pub ending_more : (m : ℕ) → m ≡ max end (p + r) → (s' : Spot) → s' ≡ next_spot s v.numbers.filetype.instances v.numbers.filetype.extent → Ending v from t r (k + 1) s' m
+  unfolding greatest
+  ending_more m e s' n =
+      let q : p + r ≡ place (paper v) (from + k) + reach v = omega (arith, g.reaches, walk_place v from t k s g.walk l p begins) in
+      record {
+        walk = walk_more v from t k s g.walk l s' n;
+        reaches = g.reaches;
+        is = rw (add-one k) (e ∙ ap (λ (y : ℕ). max y (p + r)) g.is ∙ ap (max (greatest (λ i. end_at v (from + i)) k)) q);
+      }

@@ -5,7 +5,7 @@ use Rattle.view.specs.Types.{entries, width_at, displacement_at, whole}
 use Rattle.view.specs.Places.{packed_before, data_at}
 use Rattle.view.proofs.Accepted.{width_small}
 use Rattle.view.proofs.Packing.{data_run}
-use Rattle.view.proofs.Etypes.{Summed, summed_none, summed_more, summed_end, widths_valid, entry_held, entry_scaled}
+use Rattle.view.proofs.Etypes.{Summed, summed_none, summed_more, summed_end, widths_valid, entry_held}
 use Rattle.view.specs.Parts.{entry_end, reach_of, size_of}
 use Rattle.move_run.specs.Parts.{onward, byte_from}
 use Rattle.move_etype.specs.Parts.{type_of, place_in, byte_in, Lies}
@@ -71,22 +71,16 @@ module _ (n : ℕ) (ws ds : List ℕ) where
       target_inside x q = omega (arith, h.long)
 
       module _ (l : i < n) where
-        pub copying_held : i < 8
+        copying_held : i < 8
         copying_held = entry_held n ws (widths_valid n ws ds h.lies.valid) i l
 
         pub copying_width : width_allowed (get_or ws i 0) ≡ true
         copying_width = h.lies.allowed i l
 
-        pub copying_scaled : Fits w64 (i * 8)
-        copying_scaled = entry_scaled n ws (widths_valid n ws ds h.lies.valid) i l
-
         -- entry i lies in the file
         pub file_inside : a + get_or ds i 0 + get_or ws i 0 ≤ len
         unfolding reach_of
         file_inside = omega (arith, h.lies.inside, greatest_above (entry_end ws ds) n i l)
-
-        pub file_fits : len < 2 ^ 64 → Fits w64 (a + get_or ds i 0)
-        file_fits b = record { fits = omega (arith, file_inside) }
 
         pub file_places : Continues packed (get_or ws i 0) (onward (a + get_or ds i 0)) (place_in n ws ds a)
         unfolding onward
@@ -117,4 +111,4 @@ module _ (n : ℕ) (ws ds : List ℕ) where
           done = store_run place value place' value' packed (get_or ws i 0) target₀ target target' h.done e hp.each hv.each;
         }
 
-pub ruleset copying = (rules, copying_none, copying_held, copying_width, copying_scaled, file_fits, copying_small, packed_fits, copying_more, file_places, file_values, buffer_places, buffer_values, copying_end)
+pub ruleset copying = (rules, copying_none, copying_more, file_places, file_values, buffer_places, buffer_values, copying_end)

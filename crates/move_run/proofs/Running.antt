@@ -1,90 +1,65 @@
--- Runs of bytes: of a known width, two after each other, of one byte; and a run that is being filled.
-use Rattle.laws.proofs.Prelude.{ℕ, ◌+◌, ◌-◌, ◌^◌, ◌≤◌, ◌<◌, ◌≡◌, refl, sym, ap, ◌∙◌, Bool, true, false, false≢true, List, ◌⊎◌, inl, inr, ⊎_elim, arith, add-zero, length, get_or, set, length-set, T, eqb, ltb, ltb→lt, w64, Fits, rules, eqb-true, ne_eqb, either, nth, store, store_none, store_more, store_run}
+-- Runs of bytes: a part of a list that is written at once, as single stores; a run of the one width left; a run of one value.
+use Rattle.laws.proofs.Prelude.{ℕ, zero, suc, ◌+◌, ◌-◌, ◌≤◌, ◌<◌, min, ◌≡◌, refl, sym, ap, ◌∙◌, true, List, arith, add-one, length, take, drop, replicate, either, nth, store, store_same, length-take-le, get_or-take, get_or-drop, length-replicate, get_or-replicate}
+use Rattle.std.proofs.lemmas.List.Edits.{paste_more, paste_none}
+use Rattle.std.proofs.lemmas.Slice.{put_mid-paste}
+use Rattle.std.proofs.lemmas.Grind.{common_steps}
+use borrow.Rule.Slice.PartMut.{put_mid}
+use lib.ListN.{length-drop}
+use lib.Seq.{paste}
 use Rattle.view.specs.Limits.{width_allowed}
-use Rattle.view.proofs.Accepted.{width_small}
 use Rattle.move_run.specs.Parts.{onward, byte_from, Runs, always}
 
--- ---- a run that is copied byte by byte
+-- the first n elements of s, put into l from a on, are n stores
+paste_stored : (l s : List ℕ) (a n : ℕ) → a + n ≤ length l → n ≤ length s → paste l a s n ≡ store (onward a) (nth s) n l
+unfolding store onward
+paste_stored l s a zero h k = sym (paste_none l a s)
+paste_stored l s a (suc n) h k =
+    let e = paste_stored l s a n (omega arith) (omega arith) in
+    let p = paste_more l a s n 0 (omega arith) (omega arith) in
+    rw (← e, ← add-one n) (sym p)
 
--- place k of a run lies in the target
-pub run_place : (there from here to width k : ℕ) → Runs there from here to width → T (ltb k width) → to + k < here
-run_place there from here to width k h t = omega (arith, h.target, ltb→lt k width t)
+-- a part of n places from a on that becomes s
+part_stored : (l s : List ℕ) (a n : ℕ) (value : ℕ → ℕ) → a + n ≤ length l → length s ≡ n → ((k : ℕ) → k < n → nth s k ≡ value k) → put_mid a n l s ≡ store (onward a) value n l
+part_stored l s a n value h e same =
+    put_mid-paste a n l s s n refl refl (sym e)
+    ∙ paste_stored l s a n h (omega arith)
+    ∙ store_same (onward a) (nth s) (onward a) value n l (λ k q. refl) same
 
--- its first byte, and its byte k after those before it
-pub run_begin : (source : List ℕ) (from to : ℕ) (l : List ℕ) → set l to (get_or source from 0) ≡ store (onward to) (byte_from source from) 1 l
-unfolding store onward byte_from
-run_begin source from to l = simp add-zero
+-- ---- a run that is copied
 
-pub run_next : (source : List ℕ) (from to k width : ℕ) (l₀ l : List ℕ) → l ≡ store (onward to) (byte_from source from) k l₀ → k + 1 ≡ width → set l (to + k) (get_or source (from + k) 0) ≡ store (onward to) (byte_from source from) width l₀
-unfolding onward byte_from
-run_next source from to k width l₀ l e w = rw (← w) (store_more (onward to) (byte_from source from) k (to + k) (get_or source (from + k) 0) l₀ l e refl refl)
+-- `run` is n bytes of the source, which the target's part becomes
+pub run_copied : (source target run part : List ℕ) (from to n : ℕ) → Runs (length source) from (length target) to n → run ≡ take (from + n - from) (drop from source) → part ≡ run → put_mid to (to + n - to) target part ≡ store (onward to) (byte_from source from) n target
+unfolding byte_from
+run_copied source target run part from to n h e q =
+    let a : from + n - from ≡ n = omega arith in
+    let b : to + n - to ≡ n = omega arith in
+    let is : part ≡ take n (drop from source) = rw (← a) (q ∙ e) in
+    let w : n ≤ length (drop from source) = omega (arith, length-drop from source, h.source) in
+    let long : length part ≡ n = ap length is ∙ length-take-le n (drop from source) w in
+    rw b (part_stored target part to n (byte_from source from) h.target long
+    (λ k l. ap (λ (z : List ℕ). nth z k) is ∙ get_or-take n (drop from source) k 0 l ∙ get_or-drop from source k 0))
 
-pub ruleset running = (rules, refl, run_place, run_begin, run_next)
-
--- ---- runs by their width
-
--- a run of a known width
-pub run_of : (place value : ℕ → ℕ) (width k : ℕ) (l₀ l : List ℕ) → width ≡ k → l ≡ store place value k l₀ → l ≡ store place value width l₀
-run_of place value width k l₀ l e q = q ∙ ap (λ (z : ℕ). store place value z l₀) (sym e)
-
--- two runs of four are one of eight
-pub run_twice : (source : List ℕ) (from to : ℕ) (l₀ l l' : List ℕ) → l ≡ store (onward to) (byte_from source from) 4 l₀ → l' ≡ store (onward (to + 4)) (byte_from source (from + 4)) 4 l → l' ≡ store (onward to) (byte_from source from) 8 l₀
-unfolding onward byte_from
-run_twice source from to l₀ l l' p q = store_run (onward to) (byte_from source from) (onward (to + 4)) (byte_from source (from + 4)) 4 4 l₀ l l' p q (λ k s. omega arith) (λ k s. ap (nth source) (omega arith))
-
--- the one width left
+-- a run of the one width left
 width_one : (w : ℕ) → width_allowed w ≡ true → (w ≡ 4 → ⊥) → (w ≡ 8 → ⊥) → (w ≡ 2 → ⊥) → w ≡ 1
 unfolding width_allowed either
-width_one w h n4 n8 n2 = go (eqb w 1) refl (rw (ne_eqb w 2 n2, ne_eqb w 4 n4, ne_eqb w 8 n8) at h)
-  where
-    go : (b : Bool) → eqb w 1 ≡ b → either b (either false (either false false)) ≡ true → w ≡ 1
-    go true e q = eqb-true w 1 e
-    go false e q = absurd (false≢true q)
+width_one w h n4 n8 n2 = grind (arith, common_steps, h, n4, n8, n2)
 
--- a run of an allowed width has a first place
-pub run_first : (a w n : ℕ) → width_allowed w ≡ true → a + w ≤ n → a < n
-run_first a w n h l = omega (arith, width_small w h)
+pub one_inside : (there from here to width : ℕ) → Runs there from here to width → width_allowed width ≡ true → (width ≡ 4 → ⊥) → (width ≡ 8 → ⊥) → (width ≡ 2 → ⊥) → Runs there from here to 1
+one_inside there from here to width h a n4 n8 n2 = rw (← width_one width a n4 n8 n2) h
 
-pub run_one : (source : List ℕ) (from to width : ℕ) (l : List ℕ) → width_allowed width ≡ true → (width ≡ 4 → ⊥) → (width ≡ 8 → ⊥) → (width ≡ 2 → ⊥) → set l to (get_or source from 0) ≡ store (onward to) (byte_from source from) width l
-run_one source from to width l h n4 n8 n2 = rw (width_one width h n4 n8 n2) (run_begin source from to l)
+pub one_copied : (place value : ℕ → ℕ) (width : ℕ) (before after : List ℕ) → after ≡ store place value 1 before → width_allowed width ≡ true → (width ≡ 4 → ⊥) → (width ≡ 8 → ⊥) → (width ≡ 2 → ⊥) → after ≡ store place value width before
+one_copied place value width before after e a n4 n8 n2 = rw (width_one width a n4 n8 n2) e
 
 -- ---- one value in a run of places
 
--- the places before `at` are filled
-pub record Filling (from to x at : ℕ) (file₀ file : List ℕ) : Type 0 where
-  pub begun : from ≤ at
-  pub reached : (at ≤ to) ⊎ (at ≡ from)
-  pub long : length file ≡ length file₀
-  pub done : file ≡ store (onward from) (always x) (at - from) file₀
-
-module _ (from to x : ℕ) (file₀ : List ℕ) where
-  pub filling_none : Filling from to x from file₀ file₀
-  filling_none = record {
-    begun = omega arith;
-    reached = inr refl;
-    long = refl;
-    done = let e : from - from ≡ 0 = omega arith in rw e (store_none (onward from) (always x) file₀);
-  }
-
-  module _ (at : ℕ) (file : List ℕ) (h : Filling from to x at file₀ file) where
-    pub filling_end : to ≤ at → file ≡ store (onward from) (always x) (to - from) file₀
-    filling_end l = let e : at - from ≡ to - from = ⊎_elim (λ q. omega arith) (λ q. omega arith) h.reached in h.done ∙ ap (λ (z : ℕ). store (onward from) (always x) z file₀) e
-
-    module _ (l : at < to) (b : to ≤ length file₀) where
-      pub filling_inside : at < length file
-      filling_inside = omega (arith, h.long)
-
-      pub filling_fits : length file₀ < 2 ^ 64 → Fits w64 (at + 1)
-      filling_fits q = record { fits = omega arith }
-
-      pub filling_more : Filling from to x (at + 1) file₀ (set file at x)
-      unfolding onward always
-      filling_more =
-          let e : at + 1 - from ≡ at - from + 1 = omega (arith, h.begun) in
-          let p : at ≡ from + (at - from) = omega (arith, h.begun) in
-          record {
-            begun = omega (arith, h.begun);
-            reached = inl (omega arith);
-            long = length-set file at x ∙ h.long;
-            done = rw e (store_more (onward from) (always x) (at - from) at x file₀ file h.done p refl);
-          }
+-- the part of a file that becomes `part`, from `from` up to `to`, or no part if `from` is not below it
+pub run_filled : (file part : List ℕ) (from to begin x : ℕ) → to ≤ length file → begin ≡ min from to → part ≡ replicate (length (take (to - begin) (drop begin file))) x → put_mid begin (to - begin) file part ≡ store (onward from) (always x) (to - from) file
+unfolding onward always
+run_filled file part from to begin x h b e =
+    let n : to - begin ≡ to - from = omega arith in
+    let w : to - begin ≤ length (drop begin file) = omega (arith, length-drop begin file) in
+    let t = length-take-le (to - begin) (drop begin file) w in
+    let long : length part ≡ to - begin = ap length e ∙ length-replicate _ x ∙ t in
+    part_stored file part begin (to - begin) (always x) (omega arith) long (λ k l. ap (λ (z : List ℕ). nth z k) e ∙ get_or-replicate _ k x 0 (omega (arith, t)))
+    ∙ store_same (onward begin) (always x) (onward from) (always x) (to - begin) file (λ k l. omega arith) (λ k l. refl)
+    ∙ ap (λ (z : ℕ). store (onward from) (always x) z file) n

@@ -7,46 +7,33 @@ ghost use Rattle.laws.specs.Lists.{nth};
 ghost use Rattle.laws.specs.Parts.{store};
 ghost use Rattle.view.specs.Types.{paper, whole};
 ghost use Rattle.view.specs.Places.{data_size};
-ghost use Rattle.view.specs.Parts.{view_with};
 ghost use Rattle.move_read.specs.Moves.{file_byte};
 ghost use Rattle.move_write.specs.Parts.{Storable, Growable, Grown};
 
 use handle::{Access, FileRecord};
-use view::{BytePos, Numbers, PerEntry, PerInstance};
+use view::{BytePos, View};
 
 // What the gap between the old size and the new one gets.
 const GAP_FILL: u8 = 0;
 
-// Stores the etypes of an access from the buffer, each of the data bytes at its place.
+// Stores the etypes of an access from the buffer, etype t from t·S on, each of the data bytes at its place.
 // It divides once, for the first offset, and then steps from instance to instance and from tile to tile.
-pub fn scatter<'a>(
-    v: Numbers,
-    widths: &'a PerEntry,
-    displacements: &'a PerEntry,
-    origins: &'a PerInstance,
-    file: &mut [u8],
-    access: Access,
-    buf: &[u8],
-)
-    requires { Storable (view_with v widths.now displacements.now origins.now) (length file.old) access.offset.0 access.count (length buf.now) }
-    ensures { file.new ≡ store (file_byte (paper (view_with v widths.now displacements.now origins.now)) (whole access.offset.0)) (nth buf.now) (access.count * data_size (paper (view_with v widths.now displacements.now origins.now))) file.old }
+pub fn scatter(view: &View, file: &mut [u8], access: Access, buf: &[u8])
+    requires { Storable view.now (length file.old) access.offset.0 access.count (length buf.now) }
+    ensures { file.new ≡ store (file_byte (paper view.now) (whole access.offset.0)) (nth buf.now) (access.count * data_size (paper view.now)) file.old }
 {
     let count = access.count;
     if count == 0 {
         return;
     }
-    let o = access.offset;
-    let packed = v.etype.data_size(widths);
-    let first = view::natural(o.0);
-    let last = first + count;
-    let mut spot = view_place::spot_of(v, o);
-    let mut x = first;
-    while x < last {
-        let place = view_place::begin_at(origins, spot);
-        let from = ((x - first) * packed) as usize;
-        move_etype::copy_in(v, widths, displacements, &buf[from..], file, place);
-        spot = view_place::next_spot(spot, v.filetype);
-        x += 1;
+    let filetype = view.numbers.filetype;
+    let packed = view.data_size();
+    let mut spot = view_place::spot_of(view, access.offset);
+    for t in 0..count {
+        let place = view_place::begin_at(view, spot);
+        let from = (t * packed) as usize;
+        move_etype::copy_in(view, &buf[from..], file, place);
+        spot = view_place::next_spot(spot, filetype);
     }
 }
 
@@ -56,7 +43,7 @@ pub fn grow(file: &mut [u8], mut rec: FileRecord, end: BytePos) -> FileRecord
     ensures { Grown rec end.0 file.old file.new result }
 {
     let size = rec.size;
-    let grown = laws::larger(size, end.0);
+    let grown = size.max(end.0);
     move_run::fill(file, BytePos(size), BytePos(grown), GAP_FILL);
     rec.size = grown;
     rec

@@ -1,7 +1,8 @@
 -- Flattening a recipe: one that is granted has room, and its table, placed without a shift, is its typemap.
 use mathlib.Core.List.{List, [], ◌∷◌, map}
 use lib.IntN.{+ℤ_idr}
-use Rattle.laws.proofs.Prelude.{ℕ, suc, ◌+◌, ◌-◌, ◌/◌, ◌≤◌, ◌<◌, ◌≡◌, ◌≢◌, refl, sym, ap, ◌∙◌, true, false, true≢false, ◌⊎◌, ⊎_elim, arith, length, eqb, leb, ltb, leb-true, eqb-true, eq-eqb, lt-ltb, also_inv, check_inv, cond_yes, granted_yes, granted_no, least_false_breaks, least_false_keeps, not_both, lt_or_le, eq_or_ne, pos, ℤ, ◌+ℤ◌, negsuc, within_inv, w64, SFits, to_z, of_z, to_z_pos}
+use Rattle.std.specs.Prelude.{Result, Ok, Err}
+use Rattle.laws.proofs.Prelude.{ℕ, suc, ◌-◌, ◌/◌, ◌≤◌, ◌<◌, ◌≡◌, ◌≢◌, refl, sym, ap, ◌∙◌, true, true≢false, ⊎_elim, arith, length, eqb, leb, ltb, leb-true, eqb-true, eq-eqb, lt-ltb, also_inv, check_inv, cond_yes, granted_yes, granted_no, least_false_breaks, least_false_keeps, not_both, lt_or_le, eq_or_ne, pos, ℤ, negsuc, within_inv, w64, SFits, to_z, to_z_pos}
 use Rattle.view.specs.Limits.{extent_allowed}
 use Rattle.recipe_types.specs.declared.Shape.{Shape}
 use Rattle.recipe_types.specs.Typemaps.{Entry, Typemap, extent, widths, displacements}
@@ -11,10 +12,11 @@ use Rattle.recipe_types.proofs.Building.{meaning_is}
 use Rattle.recipe_types.proofs.Shapes.{known_extent}
 use Rattle.recipe_types.proofs.Integers.{sub_pos}
 use Rattle.recipe_place.specs.Parts.{plan_of, PlaceAsked, widths_of, displacements_of, Placed}
-use Rattle.recipe_plan.specs.Parts.{inner_refusal}
-use Rattle.recipe.specs.declared.Judgement.{Judgement}
+use Rattle.recipe_plan.specs.Parts.{recipe_refusal_number, inner_refusal}
+use Rattle.recipe_plan.proofs.Refusing.{refusal_some}
+use Rattle.recipe.specs.declared.Fault.{Fault}
 use Rattle.recipe.specs.Flattening.{flatten_answer, FlattenDone}
-use Rattle.recipe.specs.Parts.{AllJudged}
+use Rattle.recipe.specs.Parts.{judged_refusal, AllJudged}
 use Rattle.recipe.proofs.Judging.{step_refused, step_last, count_are}
 use Rattle.recipe.proofs.Planning.{table_plan, table_entries}
 
@@ -90,7 +92,10 @@ granted_fits r ws ds z =
 
 -- ---- what placing the last step asks
 
-module _ (steps items : List ℕ) (ws ds : ℕ) (rows places : List ℕ) (j : Judgement) (a : AllJudged (recipe_of steps items) ws ds rows places j) (z : j.refusal ≡ 0) where
+module _ (steps items : List ℕ) (ws ds : ℕ) (rows places : List ℕ) (j : Result Unit Fault) (a : AllJudged (recipe_of steps items) ws ds rows places j) (u : Unit) (ok : j ≡ Ok u) where
+  z : judged_refusal j ≡ 0
+  z = ap judged_refusal ok
+
   whole : recipe_refusal (recipe_of steps items) ws ds ≡ 0
   whole = sym a.answer ∙ z
 
@@ -148,18 +153,17 @@ unfolding displacements_of
 unshifted [] = refl
 unshifted (e ∷ l) = rw (sub_pos 1048576 1048576 0 refl, +ℤ_idr e.displacement) (ap (λ r. e.displacement ∷ r) (unshifted l))
 
-pub flatten_done : (steps items : List ℕ) (ws ws' : List ℕ) (ds ds' : List ℤ) (rows places : List ℕ) (j : Judgement) (s : Shape) (x : ℤ) → AllJudged (recipe_of steps items) (length ws) (length ds) rows places j → j.refusal ≡ 0 → Placed (plan_of rows places (length steps / 6 - 1)) 1048576 ws ws' ds ds' → s ≡ shape_at rows (length steps / 6 - 1) → x ≡ pos s.extent → FlattenDone (recipe_of steps items) ws ws' ds ds' (record { refusal = 0; entries = s.entries; extent = to_z w64 (of_z w64 x) })
+pub flatten_done : (steps items : List ℕ) (ws ws' : List ℕ) (ds ds' : List ℤ) (rows places : List ℕ) (j : Result Unit Fault) (u : Unit) (s : Shape) → AllJudged (recipe_of steps items) (length ws) (length ds) rows places j → j ≡ Ok u → Placed (plan_of rows places (length steps / 6 - 1)) 1048576 ws ws' ds ds' → s ≡ shape_at rows (length steps / 6 - 1) → FlattenDone (recipe_of steps items) ws ws' ds ds' (record { refusal = 0; entries = s.entries; extent = to_z w64 s.extent })
 unfolding step_count flatten_answer widths displacements widths_of
-flatten_done steps items ws ws' ds ds' rows places j s x a z p e f =
+flatten_done steps items ws ws' ds ds' rows places j u s a ok p e =
     let r = recipe_of steps items in
-    let k = known steps items (length ws) (length ds) rows places j a z in
-    let m = last_means steps items (length ws) (length ds) rows places j a z in
-    let q = whole steps items (length ws) (length ds) rows places j a z in
-    let l = entries_are steps items (length ws) (length ds) rows places j a z in
+    let k = known steps items (length ws) (length ds) rows places j a u ok in
+    let m = last_means steps items (length ws) (length ds) rows places j a u ok in
+    let q = whole steps items (length ws) (length ds) rows places j a u ok in
+    let l = entries_are steps items (length ws) (length ds) rows places j a u ok in
     let count : s.entries ≡ length (meaning r).entries = ap (λ t. t.entries) e ∙ sym k.counted ∙ ap (λ t. length t.entries) (sym m) in
-    let small = flatten_extent steps items (length ws) (length ds) rows places j a z s e in
-    let read : to_z w64 (of_z w64 x) ≡ x = rw f (to_z_pos w64 small) in
-    let ext : to_z w64 (of_z w64 x) ≡ extent (meaning r) = read ∙ f ∙ ap (λ t. pos t.extent) e ∙ sym (known_extent _ _ k) ∙ ap extent (sym m) in
+    let small : s.extent < 9223372036854775808 = flatten_extent steps items (length ws) (length ds) rows places j a u ok s e in
+    let ext : to_z w64 s.extent ≡ extent (meaning r) = to_z_pos w64 small ∙ ap (λ t. pos t.extent) e ∙ sym (known_extent _ _ k) ∙ ap extent (sym m) in
     record {
       answer = rw (q, granted_yes 0 (length (meaning r).entries) 0 refl, granted_yes 0 (extent (meaning r)) (pos 0) refl, count, ext);
       widths_after = p.widths ∙ ap (λ t. over (map (λ n. n.width) t) ws) l ∙ sym (granted_yes 0 (over (widths (meaning r)) ws) ws refl);
@@ -167,12 +171,13 @@ flatten_done steps items ws ws' ds ds' rows places j s x a z p e f =
     }
 
 -- a refusal: its number, and nothing else
-pub flatten_refused : (r : Recipe) (ws : List ℕ) (ds : List ℤ) (rows places : List ℕ) (j : Judgement) → AllJudged r (length ws) (length ds) rows places j → j.refusal ≢ 0 → FlattenDone r ws ws ds ds (record { refusal = j.refusal; entries = 0; extent = pos 0 })
+pub flatten_refused : (r : Recipe) (ws : List ℕ) (ds : List ℤ) (rows places : List ℕ) (j : Result Unit Fault) (f : Fault) (n : ℕ) → AllJudged r (length ws) (length ds) rows places j → j ≡ Err f → n ≡ recipe_refusal_number f.refusal → FlattenDone r ws ws ds ds (record { refusal = n; entries = 0; extent = pos 0 })
 unfolding flatten_answer
-flatten_refused r ws ds rows places j a z =
-    let n = j.refusal in
+flatten_refused r ws ds rows places j f n a w e =
+    let z : n ≢ 0 = (λ z. refusal_some f.refusal (sym e ∙ z)) in
+    let is : recipe_refusal r (length ws) (length ds) ≡ n = sym a.answer ∙ ap judged_refusal w ∙ sym e in
     record {
-      answer = rw (sym a.answer, granted_no n (length (meaning r).entries) 0 z, granted_no n (extent (meaning r)) (pos 0) z);
+      answer = rw (is, granted_no n (length (meaning r).entries) 0 z, granted_no n (extent (meaning r)) (pos 0) z);
       widths_after = sym (granted_no n (over (widths (meaning r)) ws) ws z);
       displacements_after = sym (granted_no n (over (displacements (meaning r)) ds) ds z);
     }

@@ -1,16 +1,19 @@
 -- The steps judged in order: the first that is refused, and what with.
 use mathlib.Core.List.{List}
-use Rattle.laws.proofs.Prelude.{ℕ, suc, ◌+◌, ◌-◌, ◌/◌, ◌%◌, ◌≤◌, ◌<◌, ◌≡◌, ◌≢◌, refl, sym, ap, ◌∙◌, Bool, true, false, not, ◌⊎◌, ⊎_elim, arith, length, eqb, leb, ltb, eq-eqb, ne_eqb, lt-ltb, le-ltb, le-leb, lt-leb, also, also_yes, also_no, also_inv, also_true, also_first, also_false, within, within_inv, within_low, check, check_yes, check_no, cond_yes, cond_no, unflag_true, unflag_false, least_false_is, lt_or_le, eq_or_ne, add-one}
+use Rattle.std.specs.Prelude.{Some, None, Result, Ok, Err, IsErrAnd, MatchResult}
+use Rattle.laws.proofs.Prelude.{ℕ, suc, ◌-◌, ◌/◌, ◌%◌, ◌≤◌, ◌<◌, ◌≡◌, ◌≢◌, refl, sym, ap, ◌∙◌, Bool, true, false, ⊎_elim, arith, length, eqb, ltb, eq-eqb, ne_eqb, lt-ltb, le-ltb, also, also_inv, also_true, also_first, also_false, within, within_inv, check, check_yes, check_no, cond_yes, cond_no, least_false_is, lt_or_le, eq_or_ne}
 use Rattle.recipe_types.specs.declared.Shape.{Shape}
 use Rattle.recipe_types.specs.Typemaps.{Typemap}
 use Rattle.recipe_types.specs.Recipes.{Recipe, recipe_step, step_type, names, none_zero, dimensions_allowed, entry_count_allowed, limits_kept, room, last_refusal, step_refusal, step_count, steps_allowed, first_bad, recipe_refusal}
 use Rattle.recipe_types.specs.Parts.{Known, shape_at}
 use Rattle.recipe_types.proofs.Shapes.{known_lower}
-use Rattle.recipe_plan.specs.Parts.{Table, inner_refusal, Judged}
-use Rattle.recipe.specs.declared.Judgement.{Judgement}
-use Rattle.recipe.specs.declared.FaultyStep.TheVariants.{Step, Nothing}
+use Rattle.recipe_plan.specs.declared.Refusal.{Refusal}
+use Rattle.recipe_plan.specs.declared.Refusal.TheVariants.{Steps}
+use Rattle.recipe_plan.specs.Parts.{recipe_refusal_number, recipe_refusal_in, Table, inner_refusal, Judged}
+use Rattle.recipe_plan.proofs.Refusing.{refusal_some}
+use Rattle.recipe.specs.declared.Fault.{Fault}
 use Rattle.recipe.specs.Flattening.{faulty_step}
-use Rattle.recipe.specs.Parts.{last_by, judged_at, AllJudged}
+use Rattle.recipe.specs.Parts.{last_by, judged_refusal, judged_step, AllJudged}
 
 -- ---- checks 27 to 31, and those of the last step after them
 
@@ -34,6 +37,30 @@ five_passes true true false d e x n = absurd (omega arith)
 five_passes true true true false e x n = absurd (omega arith)
 five_passes true true true true false x n = absurd (omega arith)
 five_passes true true true true true x n = refl
+
+-- ---- the fault of a step: its refusal, and its number
+
+abbrev pub FaultOf : Result Unit Refusal → Result Unit Fault → ℕ → Type 0
+FaultOf q m i = MatchResult q (λ x. m ≡ Ok x) (λ e. IsErrAnd m (λ f. f ≡ record { refusal = e; step = Some i }))
+
+fault_number : (q : Result Unit Refusal) (m : Result Unit Fault) (i : ℕ) → FaultOf q m i → judged_refusal m ≡ recipe_refusal_in q
+fault_number (Ok x) m i h = ap judged_refusal h
+fault_number (Err e) (Ok y) i h = absurd h
+fault_number (Err e) (Err f) i h = ap (λ f. recipe_refusal_number f.refusal) h
+
+fault_none : (q : Result Unit Refusal) (m : Result Unit Fault) (i : ℕ) → FaultOf q m i → recipe_refusal_in q ≡ 0 → judged_step m ≡ None
+fault_none (Ok x) m i h z = ap judged_step h
+fault_none (Err e) m i h z = absurd (refusal_some e z)
+
+fault_step : (q : Result Unit Refusal) (m : Result Unit Fault) (i : ℕ) → FaultOf q m i → recipe_refusal_in q ≢ 0 → judged_step m ≡ Some i
+fault_step (Ok x) m i h n = absurd (n refl)
+fault_step (Err e) (Ok y) i h n = absurd h
+fault_step (Err e) (Err f) i h n = ap (λ f. f.step) h
+
+-- `?` passes it on as it is
+fault_passed : (a : Result Unit Fault) (f : Fault) → IsErrAnd a (λ y. y ≡ f) → a ≡ Err f
+fault_passed (Ok x) f h = absurd h
+fault_passed (Err y) f h = ap (λ y. Err y) h
 
 module _ (r : Recipe) (ws ds : ℕ) where
   -- a step that these checks refuse
@@ -65,21 +92,21 @@ module _ (r : Recipe) (ws ds : ℕ) where
   unfolding recipe_refusal
   refused_at i refusal a l e h = check_yes (steps_allowed r) 26 _ refusal a (cond_yes (ltb (first_bad r ws ds) (step_count r)) _ 0 refusal (lt-ltb (first_bad r ws ds) (step_count r) (rw e at l)) (rw e at h))
 
-  faulty_at : (i : ℕ) → steps_allowed r ≡ true → i < step_count r → i ≡ first_bad r ws ds → Step i ≡ faulty_step r ws ds
+  faulty_at : (i : ℕ) → steps_allowed r ≡ true → i < step_count r → i ≡ first_bad r ws ds → Some i ≡ faulty_step r ws ds
   unfolding faulty_step
-  faulty_at i a l e = cond_yes _ (Step (first_bad r ws ds)) Nothing (Step i) (also_true a (lt-ltb (first_bad r ws ds) (step_count r) (rw e at l))) (ap (λ k. Step k) e)
+  faulty_at i a l e = cond_yes _ (Some (first_bad r ws ds)) None (Some i) (also_true a (lt-ltb (first_bad r ws ds) (step_count r) (rw e at l))) (ap (λ k. Some k) e)
 
   granted_all : steps_allowed r ≡ true → step_count r ≡ first_bad r ws ds → 0 ≡ recipe_refusal r ws ds
   unfolding recipe_refusal
   granted_all a e = check_yes (steps_allowed r) 26 _ 0 a (cond_no (ltb (first_bad r ws ds) (step_count r)) _ 0 0 (le-ltb (first_bad r ws ds) (step_count r) (omega arith)) refl)
 
-  faulty_none : step_count r ≡ first_bad r ws ds → Nothing ≡ faulty_step r ws ds
+  faulty_none : step_count r ≡ first_bad r ws ds → None ≡ faulty_step r ws ds
   unfolding faulty_step
-  faulty_none e = cond_no _ (Step (first_bad r ws ds)) Nothing Nothing (also_false (steps_allowed r) _ (le-ltb (first_bad r ws ds) (step_count r) (omega arith))) refl
+  faulty_none e = cond_no _ (Some (first_bad r ws ds)) None None (also_false (steps_allowed r) _ (le-ltb (first_bad r ws ds) (step_count r) (omega arith))) refl
 
-  faulty_count : steps_allowed r ≡ false → Nothing ≡ faulty_step r ws ds
+  faulty_count : steps_allowed r ≡ false → None ≡ faulty_step r ws ds
   unfolding faulty_step
-  faulty_count e = cond_no _ (Step (first_bad r ws ds)) Nothing Nothing (also_first (steps_allowed r) (ltb (first_bad r ws ds) (step_count r)) e) refl
+  faulty_count e = cond_no _ (Some (first_bad r ws ds)) None None (also_first (steps_allowed r) (ltb (first_bad r ws ds) (step_count r)) e) refl
 
   -- ---- while the steps are judged: those before i passed, and are in the table
 
@@ -91,12 +118,12 @@ module _ (r : Recipe) (ws ds : ℕ) where
     pub reached : i ≤ n
 
   -- no step yet
-  pub judging_none : (rows places : List ℕ) (b : Bool) → length rows ≡ 256 → length places ≡ 8192 → b ≡ also (eqb (length r.steps % 6) 0) (within 1 32 (length r.steps / 6)) → not b ≡ false → Judging rows places 0 (length r.steps / 6)
+  pub judging_none : (rows places : List ℕ) (b : Bool) → length rows ≡ 256 → length places ≡ 8192 → b ≡ also (eqb (length r.steps % 6) 0) (within 1 32 (length r.steps / 6)) → b ≡ true → Judging rows places 0 (length r.steps / 6)
   unfolding step_count steps_allowed
   judging_none rows places b lr lp e a = record {
     table = record { rows_long = lr; places_long = lp; each = λ i l. absurd (omega arith) };
     count = refl;
-    allowed = unflag_true b (steps_allowed r) e a;
+    allowed = sym e ∙ a;
     passed = λ k l. absurd (omega arith);
     reached = omega arith;
   }
@@ -109,30 +136,22 @@ module _ (r : Recipe) (ws ds : ℕ) where
   pub judging_below : (rows places : List ℕ) (i n : ℕ) → Judging rows places i n → i < n → i < 32
   judging_below rows places i n j l = let c = (count_are n j.count j.allowed).1 in omega arith
 
-  -- the next step is granted
-  pub judging_more : (rows places rows' places' : List ℕ) (i n refusal : ℕ) → Judging rows places i n → i < n → Judged r i rows' places' refusal → refusal ≡ 0 → Judging rows' places' (i + 1) n
-  judging_more rows places rows' places' i n refusal j l d z = record {
-    table = rw (add-one i) (d.table z);
-    count = j.count;
-    allowed = j.allowed;
-    passed = λ k b. ⊎_elim (λ q. j.passed k q) (λ q. let e : k ≡ i = omega arith in rw e (sym d.answer ∙ z)) (lt_or_le k i);
-    reached = omega arith;
-  }
-
   before_zero : (rows places : List ℕ) (i n : ℕ) → Judging rows places i n → i < n → (k : ℕ) → k < i → step_refusal r ws ds k ≡ 0
   before_zero rows places i n j l k b = step_passes k (j.passed k b) (λ e. let c = j.count in omega arith)
 
   -- the next step is refused
-  pub judging_stop : (rows places rows' places' : List ℕ) (i n refusal : ℕ) (a : Judgement) → Judging rows places i n → i < n → Judged r i rows' places' refusal → refusal ≢ 0 → a ≡ judged_at refusal i → AllJudged r ws ds rows' places' a
-  unfolding judged_at
-  judging_stop rows places rows' places' i n refusal a j l d z e =
+  pub judging_stop : (rows places rows' places' : List ℕ) (i n : ℕ) (q : Result Unit Refusal) (m : Result Unit Fault) (f : Fault) (a : Result Unit Fault) → Judging rows places i n → i < n → Judged r i rows' places' (recipe_refusal_in q) → FaultOf q m i → m ≡ Err f → IsErrAnd a (λ y. y ≡ f) → AllJudged r ws ds rows' places' a
+  judging_stop rows places rows' places' i n q m f a j l d g w h =
+      let same : a ≡ m = fault_passed a f h ∙ sym w in
+      let number = fault_number q m i g in
+      let z : recipe_refusal_in q ≢ 0 = (λ z. refusal_some f.refusal (sym (ap judged_refusal w) ∙ number ∙ z)) in
       let below : i < step_count r = rw j.count at l in
-      let is : refusal ≡ step_refusal r ws ds i = d.answer ∙ sym (step_refused i (λ q. z (d.answer ∙ q))) in
-      let bad = bad_is i below (before_zero rows places i n j l) (λ q. z (is ∙ q)) in
-      rw e (record {
-        answer = refused_at i refusal j.allowed below bad is;
-        step = sym (cond_no (eqb refusal 0) Nothing (Step i) (Step i) (ne_eqb refusal 0 z) refl) ∙ faulty_at i j.allowed below bad;
-        table = λ q. absurd (z q);
+      let is : recipe_refusal_in q ≡ step_refusal r ws ds i = d.answer ∙ sym (step_refused i (λ e. z (d.answer ∙ e))) in
+      let bad = bad_is i below (before_zero rows places i n j l) (λ e. z (is ∙ e)) in
+      rw same (record {
+        answer = number ∙ refused_at i (recipe_refusal_in q) j.allowed below bad is;
+        step = fault_step q m i g z ∙ faulty_at i j.allowed below bad;
+        table = λ e. absurd (z (sym number ∙ e));
       })
 
   -- ---- the last step
@@ -142,35 +161,35 @@ module _ (r : Recipe) (ws ds : ℕ) where
   unfolding last_by last_refusal room
   last_is t s k = rw (known_lower t s k, k.counted)
 
-  pub judging_end : (rows places : List ℕ) (i n refusal : ℕ) (a : Judgement) → Judging rows places i n → n ≤ i → refusal ≡ last_by (shape_at rows (n - 1)) ws ds → a ≡ judged_at refusal (n - 1) → AllJudged r ws ds rows places a
-  unfolding judged_at
-  judging_end rows places i n refusal a j l h e =
+  pub judging_end : (rows places : List ℕ) (i n : ℕ) (q : Result Unit Refusal) (a : Result Unit Fault) → Judging rows places i n → n ≤ i → recipe_refusal_in q ≡ last_by (shape_at rows (n - 1)) ws ds → FaultOf q a (n - 1) → AllJudged r ws ds rows places a
+  judging_end rows places i n q a j l h g =
       let c = count_are n j.count j.allowed in
       let some = c.0 in
       let reach = j.reached in
+      let number = fault_number q a (n - 1) g in
       let last : suc (n - 1) ≡ step_count r = (let q = j.count in omega arith) in
       let below : n - 1 < step_count r = (let q = j.count in omega arith) in
       let known = (j.table.each (n - 1) (omega arith)).known in
-      let is : refusal ≡ step_refusal r ws ds (n - 1) = h ∙ last_is (step_type r (n - 1)) (shape_at rows (n - 1)) known ∙ sym (step_last (n - 1) (j.passed (n - 1) (omega arith)) last) in
+      let is : recipe_refusal_in q ≡ step_refusal r ws ds (n - 1) = h ∙ last_is (step_type r (n - 1)) (shape_at rows (n - 1)) known ∙ sym (step_last (n - 1) (j.passed (n - 1) (omega arith)) last) in
       let before : (k : ℕ) → k < n - 1 → step_refusal r ws ds k ≡ 0 = (λ k b. step_passes k (j.passed k (omega arith)) (λ q. let w = j.count in omega arith)) in
-      rw e (⊎_elim
+      ⊎_elim
       (λ z. let none = bad_none (λ k b. ⊎_elim (λ q. before k q) (λ q. let w : k ≡ n - 1 = (let v = j.count in omega arith) in rw w (sym is ∙ z)) (lt_or_le k (n - 1))) in record {
-        answer = z ∙ granted_all j.allowed none;
-        step = sym (cond_yes (eqb refusal 0) Nothing (Step (n - 1)) Nothing (eq-eqb refusal 0 z) refl) ∙ faulty_none none;
-        table = λ q. let w : i ≡ step_count r = (let v = j.count in omega arith) in rw (sym w) j.table;
+        answer = number ∙ z ∙ granted_all j.allowed none;
+        step = fault_none q a (n - 1) g z ∙ faulty_none none;
+        table = λ e. let w : i ≡ step_count r = (let v = j.count in omega arith) in rw (sym w) j.table;
       })
-      (λ z. let bad = bad_is (n - 1) below before (λ q. z (is ∙ q)) in record {
-        answer = refused_at (n - 1) refusal j.allowed below bad is;
-        step = sym (cond_no (eqb refusal 0) Nothing (Step (n - 1)) (Step (n - 1)) (ne_eqb refusal 0 z) refl) ∙ faulty_at (n - 1) j.allowed below bad;
-        table = λ q. absurd (z q);
+      (λ z. let bad = bad_is (n - 1) below before (λ e. z (is ∙ e)) in record {
+        answer = number ∙ refused_at (n - 1) (recipe_refusal_in q) j.allowed below bad is;
+        step = fault_step q a (n - 1) g z ∙ faulty_at (n - 1) j.allowed below bad;
+        table = λ e. absurd (z (sym number ∙ e));
       })
-      (eq_or_ne refusal 0))
+      (eq_or_ne (recipe_refusal_in q) 0)
 
   -- a wrong number of steps
-  pub judged_count : (rows places : List ℕ) (b : Bool) → b ≡ also (eqb (length r.steps % 6) 0) (within 1 32 (length r.steps / 6)) → not b ≡ true → AllJudged r ws ds rows places (record { refusal = 26; faulty = Nothing })
+  pub judged_count : (rows places : List ℕ) (b : Bool) → b ≡ also (eqb (length r.steps % 6) 0) (within 1 32 (length r.steps / 6)) → b ≡ false → AllJudged r ws ds rows places (Err (record { refusal = Steps; step = None }))
   unfolding recipe_refusal steps_allowed step_count
   judged_count rows places b e k =
-      let f = unflag_false b (steps_allowed r) e k in
+      let f : steps_allowed r ≡ false = sym e ∙ k in
       record {
         answer = check_no (steps_allowed r) 26 _ 26 f refl;
         step = faulty_count f;
@@ -183,39 +202,3 @@ module _ (r : Recipe) (ws ds : ℕ) where
 
   pub judging_last : (rows places : List ℕ) (i n : ℕ) → Judging rows places i n → n - 1 < 32
   judging_last rows places i n j = let c = (count_are n j.count j.allowed).1 in omega arith
-
--- ---- the tests by themselves
-
-pub judged_zero : (refusal i : ℕ) → refusal ≡ 0 → record { refusal = 0; faulty = Nothing } ≡ judged_at refusal i
-unfolding judged_at
-judged_zero refusal i e = rw e
-
-pub judged_some : (refusal i : ℕ) → refusal ≢ 0 → record { refusal = refusal; faulty = Step i } ≡ judged_at refusal i
-unfolding judged_at
-judged_some refusal i e = rw (ne_eqb refusal 0 e)
-
-pub steps_part : (len : ℕ) → len % 6 ≢ 0 → false ≡ also (eqb (len % 6) 0) (within 1 32 (len / 6))
-steps_part len n = also_no (eqb (len % 6) 0) _ (ne_eqb (len % 6) 0 n)
-
-pub steps_none : (len : ℕ) → len / 6 < 1 → false ≡ also (eqb (len % 6) 0) (within 1 32 (len / 6))
-steps_none len h = sym (also_false (eqb (len % 6) 0) _ (within_low 1 32 (len / 6) h))
-
-pub steps_some : (len : ℕ) → len % 6 ≡ 0 → 1 ≤ len / 6 → leb (len / 6) 32 ≡ also (eqb (len % 6) 0) (within 1 32 (len / 6))
-unfolding within
-steps_some len e h = also_yes (eqb (len % 6) 0) _ _ (eq-eqb (len % 6) 0 e) (also_yes (leb 1 (len / 6)) _ _ (le-leb 1 (len / 6) h) refl)
-
-pub last_bound : (t s : Shape) (ws ds : ℕ) → t ≡ s → t.least ≢ t.base → 32 ≡ last_by s ws ds
-unfolding last_by
-last_bound t s ws ds is n = rw (sym is) (check_no (eqb t.least t.base) 32 _ 32 (ne_eqb t.least t.base n) refl)
-
-pub last_widths : (t s : Shape) (ws ds : ℕ) → t ≡ s → t.least ≡ t.base → ws < t.entries → 33 ≡ last_by s ws ds
-unfolding last_by
-last_widths t s ws ds is e l = rw (sym is) (check_yes (eqb t.least t.base) 32 _ 33 (eq-eqb t.least t.base e) (check_no _ 33 0 33 (also_first (leb t.entries ws) (leb t.entries ds) (lt-leb t.entries ws l)) refl))
-
-pub last_displacements : (t s : Shape) (ws ds : ℕ) → t ≡ s → t.least ≡ t.base → ds < t.entries → 33 ≡ last_by s ws ds
-unfolding last_by
-last_displacements t s ws ds is e l = rw (sym is) (check_yes (eqb t.least t.base) 32 _ 33 (eq-eqb t.least t.base e) (check_no _ 33 0 33 (also_false (leb t.entries ws) (leb t.entries ds) (lt-leb t.entries ds l)) refl))
-
-pub last_room : (t s : Shape) (ws ds : ℕ) → t ≡ s → t.least ≡ t.base → t.entries ≤ ws → t.entries ≤ ds → 0 ≡ last_by s ws ds
-unfolding last_by
-last_room t s ws ds is e w d = rw (sym is) (check_yes (eqb t.least t.base) 32 _ 0 (eq-eqb t.least t.base e) (check_yes _ 33 0 0 (also_true (le-leb t.entries ws w) (le-leb t.entries ds d)) refl))

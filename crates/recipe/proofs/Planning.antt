@@ -1,7 +1,7 @@
 -- The table of a recipe's steps can be placed, and stands for the entries of the types that the steps mean.
 use mathlib.Core.List.{List, map}
 use lib.IntN.{◌*ℤ◌}
-use Rattle.laws.proofs.Prelude.{ℕ, zero, suc, ◌+◌, ◌-◌, ◌*◌, ◌≤◌, ◌<◌, ◌≡◌, ◌≢◌, refl, sym, ap, ◌∙◌, true, ◌⊎◌, ⊎_elim, arith, nth, drop, get_or-drop, eqb-true, either_inv, eq-or-lt_of_le, eq_or_ne, sub_ℕ}
+use Rattle.laws.proofs.Prelude.{ℕ, zero, suc, ◌+◌, ◌*◌, ◌≤◌, ◌<◌, ◌≡◌, ◌≢◌, refl, sym, ap, ◌∙◌, true, ⊎_elim, arith, nth, drop, get_or-drop, eqb-true, either_inv, eq-or-lt_of_le, eq_or_ne, sub_ℕ}
 use Rattle.view.specs.Limits.{width_allowed}
 use Rattle.recipe_types.specs.declared.Shape.{Shape}
 use Rattle.recipe_types.specs.Typemaps.{Typemap, extent, basic, shifted}

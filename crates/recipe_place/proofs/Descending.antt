@@ -1,5 +1,5 @@
 -- A step that names an earlier one: what the call for each copy asks, and what both lists hold after k of them.
-use Rattle.laws.proofs.Prelude.{ℕ, suc, ◌+◌, ◌-◌, ◌*◌, ◌≤◌, ◌<◌, ◌≡◌, ◌≢◌, refl, sym, ap, ◌∙◌, List, ◌++◌, arith, length, length-drop, nth, take, drop, ℤ, Fits, w64, eq-eqb, ne_eqb, mul-le-mul, length-take-le}
+use Rattle.laws.proofs.Prelude.{ℕ, suc, ◌+◌, ◌-◌, ◌*◌, ◌≤◌, ◌<◌, ◌≡◌, ◌≢◌, refl, sym, ap, ◌∙◌, List, ◌++◌, arith, length, length-drop, nth, take, drop, ℤ, eq-eqb, ne_eqb, mul-le-mul, length-take-le}
 use Rattle.recipe_types.specs.declared.Shape.{Shape}
 use Rattle.recipe_types.specs.Parts.{bias, max_place, shape_at, shape_below, shape_named, basic_shape}
 use Rattle.recipe_place.specs.declared.Row.{Row}
@@ -28,11 +28,8 @@ plan_shorter rows places n m p h = record {
 
 -- ---- what a step asks
 
-pub step_below : (rows places : List ℕ) (i shift widths displacements : ℕ) → PlaceAsked rows places i shift widths displacements → i < 32
+step_below : (rows places : List ℕ) (i shift widths displacements : ℕ) → PlaceAsked rows places i shift widths displacements → i < 32
 step_below rows places i shift widths displacements h = let s = h.plan.steps in omega arith
-
-pub rows_are : (rows places : List ℕ) (i shift widths displacements : ℕ) → PlaceAsked rows places i shift widths displacements → length rows ≡ 256
-rows_are rows places i shift widths displacements h = h.plan.rows_long
 
 -- a step that names a basic width
 pub basic_of : (rows places : List ℕ) (i shift widths displacements : ℕ) (row : Row) → PlaceAsked rows places i shift widths displacements → row ≡ row_of rows i → row.source ≡ 1 → BasicFits row places i shift widths displacements
@@ -59,16 +56,17 @@ placed_basic rows places i shift row ws ws' ds ds' e s p = rw (sym (plan_basic r
 
 -- ---- a step that names an earlier one
 
--- the lists while its copies are placed
-pub record Descending (rows places : List ℕ) (i shift : ℕ) (row : Row) (below : Shape) (k : ℕ) (ws₀ ws : List ℕ) (ds₀ ds : List ℤ) : Type 0 where
+-- the lists while its n copies of `step` are placed
+pub record Descending (rows places : List ℕ) (i shift n step : ℕ) (below : Shape) (k : ℕ) (ws₀ ws : List ℕ) (ds₀ ds : List ℤ) : Type 0 where
   pub asked : PlaceAsked rows places i shift (length ws₀) (length ds₀)
-  pub row_is : row ≡ row_of rows i
-  pub named : row.source ≢ 1
-  pub below_same : below ≡ shape_at rows row.name
-  pub copying : Copying places i below.extent (plan_of rows places row.name) shift row.copies k ws₀ ws ds₀ ds
+  pub copies_are : n ≡ nth rows (8 * i)
+  pub named : nth rows (8 * i + 1) ≢ 1
+  pub step_is : step ≡ nth rows (8 * i + 2)
+  pub below_same : below ≡ shape_at rows step
+  pub copying : Copying places i below.extent (plan_of rows places step) shift n k ws₀ ws ds₀ ds
 
 -- it stands before the one that names it, and the numbers of its type are those that the row keeps
-pub named_earlier : (rows places : List ℕ) (i shift widths displacements : ℕ) (row : Row) → PlaceAsked rows places i shift widths displacements → row ≡ row_of rows i → row.source ≢ 1 → row.name < i
+named_earlier : (rows places : List ℕ) (i shift widths displacements : ℕ) (row : Row) → PlaceAsked rows places i shift widths displacements → row ≡ row_of rows i → row.source ≢ 1 → row.name < i
 unfolding row_of
 named_earlier rows places i shift widths displacements row h e s = rw e ((h.plan.row i (omega arith)).earlier (rw e at s))
 
@@ -79,46 +77,26 @@ named_row rows places i shift widths displacements row h e s =
     omega arith
 
 -- what the row of the step keeps of the copies, and of the entries
-pub record Kept (places : List ℕ) (i : ℕ) (row : Row) (below here : Shape) : Type 0 where
-  pub few : row.copies ≤ 256
-  pub counted : here.entries ≡ row.copies * below.entries
+pub record Kept (places : List ℕ) (i n : ℕ) (below here : Shape) : Type 0 where
+  pub few : n ≤ 256
+  pub counted : here.entries ≡ n * below.entries
   pub entries_few : here.entries ≤ 256
   pub extent : below.extent ≤ max_place
   pub least : below.least ≤ max_place
-  pub small : (k : ℕ) → k < row.copies → nth places (256 * i + k) ≤ 2147483648
-  pub above : (k : ℕ) → k < row.copies → bias * below.extent + here.least ≤ below.least + nth places (256 * i + k) * below.extent
-  pub below' : (k : ℕ) → k < row.copies → below.end + nth places (256 * i + k) * below.extent ≤ here.end + bias * below.extent
-
-kept_of : (rows places : List ℕ) (i shift : ℕ) (row : Row) (below : Shape) (k : ℕ) (ws₀ ws : List ℕ) (ds₀ ds : List ℤ) → Descending rows places i shift row below k ws₀ ws ds₀ ds → Kept places i row below (shape_at rows i)
-unfolding row_of
-kept_of rows places i shift row below k ws₀ ws ds₀ ds g =
-    let kept = g.asked.plan.row i (omega arith) in
-    let source : nth rows (8 * i + 1) ≢ 1 = rw g.row_is at g.named in
-    let shape : shape_below rows i ≡ below = below_step rows i source ∙ rw (g.below_same, g.row_is) in
-    let child = g.asked.plan.row (nth rows (8 * i + 2)) (let q = kept.earlier source in omega arith) in
-    rw g.row_is (record {
-      few = kept.copies;
-      counted = rw shape at kept.counted;
-      entries_few = kept.few;
-      extent = rw (g.below_same, g.row_is) child.extent;
-      least = rw (g.below_same, g.row_is) child.least;
-      small = kept.small;
-      above = rw shape at kept.above;
-      below' = rw shape at kept.below;
-    })
-
--- how many entries a copy has, and that there is room for it
-child_length : (rows places : List ℕ) (i shift : ℕ) (row : Row) (below : Shape) (k : ℕ) (ws₀ ws : List ℕ) (ds₀ ds : List ℤ) → Descending rows places i shift row below k ws₀ ws ds₀ ds → length (plan_of rows places row.name) ≡ below.entries
-child_length rows places i shift row below k ws₀ ws ds₀ ds g =
-    let e = named_earlier rows places i shift (length ws₀) (length ds₀) row g.asked g.row_is g.named in
-    plan_length rows places (suc i) g.asked.plan row.name (omega arith) ∙ ap (λ s. s.entries) (sym g.below_same)
+  pub small : (k : ℕ) → k < n → nth places (256 * i + k) ≤ 2147483648
+  pub above : (k : ℕ) → k < n → bias * below.extent + here.least ≤ below.least + nth places (256 * i + k) * below.extent
+  pub below' : (k : ℕ) → k < n → below.end + nth places (256 * i + k) * below.extent ≤ here.end + bias * below.extent
 
 room : (n k m : ℕ) → k < n → k * m + m ≤ n * m
 room n k m l = let b = mul-le-mul {n₁ = k + 1} {m₁ = m} {n₂ = n} {m₂ = m} (omega arith) (omega arith) in omega arith
 
+-- the length of a part that is lent
+part_length : {A : Type 0} (l : List A) (at : ℕ) → at ≤ length l → length (take (length l - at) (drop at l)) ≡ length l - at
+part_length l at h = length-take-le (length l - at) (drop at l) (rw (length-drop at l) (omega arith))
+
 -- ---- the needs of the walk over its copies
 
-pub descend_none : (rows places : List ℕ) (i shift : ℕ) (row : Row) (below : Shape) (ws : List ℕ) (ds : List ℤ) → PlaceAsked rows places i shift (length ws) (length ds) → row ≡ row_of rows i → row.source ≢ 1 → below ≡ shape_at rows row.name → Descending rows places i shift row below 0 ws ws ds ds
+pub descend_none : (rows places : List ℕ) (i shift : ℕ) (row : Row) (below : Shape) (ws : List ℕ) (ds : List ℤ) → PlaceAsked rows places i shift (length ws) (length ds) → row ≡ row_of rows i → row.source ≢ 1 → below ≡ shape_at rows row.name → Descending rows places i shift row.copies row.name below 0 ws ws ds ds
 unfolding row_of
 descend_none rows places i shift row below ws ds h e s b =
     let kept = h.plan.row i (omega arith) in
@@ -130,8 +108,9 @@ descend_none rows places i shift row below ws ds h e s b =
     let d = h.displacements_long in
     record {
       asked = h;
-      row_is = e;
-      named = s;
+      copies_are = ap (λ r. r.copies) e;
+      named = source;
+      step_is = ap (λ r. r.name) e;
       below_same = b;
       copying = record {
         done = omega arith;
@@ -143,10 +122,47 @@ descend_none rows places i shift row below ws ds h e s b =
       };
     }
 
-pub descend_fits : (rows places : List ℕ) (i shift : ℕ) (row : Row) (below : Shape) (k : ℕ) (ws₀ ws : List ℕ) (ds₀ ds : List ℤ) → Descending rows places i shift row below k ws₀ ws ds₀ ds → k < row.copies → CopyFits places i k shift below.extent
-descend_fits rows places i shift row below k ws₀ ws ds₀ ds g l =
-    let kept = kept_of rows places i shift row below k ws₀ ws ds₀ ds g in
-    record {
+module _ (rows places : List ℕ) (i shift n step : ℕ) (below : Shape) (k : ℕ) (ws₀ ws : List ℕ) (ds₀ ds : List ℤ) (g : Descending rows places i shift n step below k ws₀ ws ds₀ ds) where
+  early : step < i
+  early = rw g.step_is ((g.asked.plan.row i (omega arith)).earlier g.named)
+
+  kept : Kept places i n below (shape_at rows i)
+  kept =
+      let kept = g.asked.plan.row i (omega arith) in
+      let shape : shape_below rows i ≡ below = below_step rows i g.named ∙ rw (g.below_same, g.step_is) in
+      let child = g.asked.plan.row (nth rows (8 * i + 2)) (let q = kept.earlier g.named in omega arith) in
+      rw g.copies_are (record {
+        few = kept.copies;
+        counted = rw shape at kept.counted;
+        entries_few = kept.few;
+        extent = rw (g.below_same, g.step_is) child.extent;
+        least = rw (g.below_same, g.step_is) child.least;
+        small = kept.small;
+        above = rw shape at kept.above;
+        below' = rw shape at kept.below;
+      })
+
+  -- how many entries a copy has
+  child_length : length (plan_of rows places step) ≡ below.entries
+  child_length =
+      let e = early in
+      plan_length rows places (suc i) g.asked.plan step (omega arith) ∙ ap (λ s. s.entries) (sym g.below_same)
+
+  -- the step that is named has a smaller number
+  pub descend_falls : (t : ℕ) → i ≡ t → step < t
+  descend_falls t e = let a = early in omega arith
+
+  -- all copies are placed
+  pub descend_end : n ≤ k → Placed (plan_of rows places i) shift ws₀ ws ds₀ ds
+  descend_end l =
+      let kept = g.asked.plan.row i (omega arith) in
+      let d = g.copying.done in
+      let e : k ≡ n = omega arith in
+      rw (sym (plan_step rows places i g.named (kept.earlier g.named))) (rw (e, g.below_same, g.step_is, g.copies_are) at g.copying.placed)
+
+  module _ (l : k < n) where
+    pub descend_fits : CopyFits places i k shift below.extent
+    descend_fits = record {
       places_long = g.asked.plan.places_long;
       step = step_below rows places i shift (length ws₀) (length ds₀) g.asked;
       copy = let f = kept.few in omega arith;
@@ -156,100 +172,71 @@ descend_fits rows places i shift row below k ws₀ ws ds₀ ds g l =
       not_below = let a = kept.above k l in let b = g.asked.above in let c = kept.least in omega arith;
     }
 
--- where the next copy begins in the lists
-pub descend_at : (rows places : List ℕ) (i shift : ℕ) (row : Row) (below : Shape) (k : ℕ) (ws₀ ws : List ℕ) (ds₀ ds : List ℤ) → Descending rows places i shift row below k ws₀ ws ds₀ ds → k < row.copies → Fits w64 (k * below.entries)
-descend_at rows places i shift row below k ws₀ ws ds₀ ds g l =
-    let kept = kept_of rows places i shift row below k ws₀ ws ds₀ ds g in
-    record { fits = let a = room row.copies k below.entries l in let b = kept.counted in let c = kept.entries_few in omega arith }
+    -- the next copy begins in the lists
+    pub descend_in_widths : k * below.entries ≤ length ws
+    descend_in_widths =
+        let a = room n k below.entries l in
+        let b = kept.counted in
+        let c = g.asked.widths_long in
+        let d = g.copying.widths_long in
+        omega arith
 
-pub descend_in_widths : (rows places : List ℕ) (i shift : ℕ) (row : Row) (below : Shape) (k : ℕ) (ws₀ ws : List ℕ) (ds₀ ds : List ℤ) → Descending rows places i shift row below k ws₀ ws ds₀ ds → k < row.copies → k * below.entries ≤ length ws
-descend_in_widths rows places i shift row below k ws₀ ws ds₀ ds g l =
-    let kept = kept_of rows places i shift row below k ws₀ ws ds₀ ds g in
-    let a = room row.copies k below.entries l in
-    let b = kept.counted in
-    let c = g.asked.widths_long in
-    let d = g.copying.widths_long in
-    omega arith
+    pub descend_in_displacements : k * below.entries ≤ length ds
+    descend_in_displacements =
+        let a = room n k below.entries l in
+        let b = kept.counted in
+        let c = g.asked.displacements_long in
+        let d = g.copying.displacements_long in
+        omega arith
 
-pub descend_in_displacements : (rows places : List ℕ) (i shift : ℕ) (row : Row) (below : Shape) (k : ℕ) (ws₀ ws : List ℕ) (ds₀ ds : List ℤ) → Descending rows places i shift row below k ws₀ ws ds₀ ds → k < row.copies → k * below.entries ≤ length ds
-descend_in_displacements rows places i shift row below k ws₀ ws ds₀ ds g l =
-    let kept = kept_of rows places i shift row below k ws₀ ws ds₀ ds g in
-    let a = room row.copies k below.entries l in
-    let b = kept.counted in
-    let c = g.asked.displacements_long in
-    let d = g.copying.displacements_long in
-    omega arith
+    module _ (to : ℕ) (e : to ≡ copy_shift places i k shift below.extent) where
+      -- what the call for the next copy asks
+      pub descend_asked : PlaceAsked rows places step to (length (take (length ws - k * below.entries) (drop (k * below.entries) ws))) (length (take (length ds - k * below.entries) (drop (k * below.entries) ds)))
+      unfolding copy_shift
+      descend_asked =
+          let before = early in
+          let r = room n k below.entries l in
+          let m = kept.counted in
+          let f = kept.least in
+          let a = kept.above k l in
+          let b = kept.below' k l in
+          let a' = g.asked.above in
+          let b' = g.asked.below in
+          let lw = part_length ws (k * below.entries) descend_in_widths in
+          let ld = part_length ds (k * below.entries) descend_in_displacements in
+          let cw = g.asked.widths_long in
+          let cd = g.asked.displacements_long in
+          let dw = g.copying.widths_long in
+          let dd = g.copying.displacements_long in
+          record {
+            plan = plan_shorter rows places (suc i) (suc step) g.asked.plan (omega arith);
+            above = rw (sym g.below_same) (omega arith);
+            below = rw (sym g.below_same) (omega arith);
+            widths_long = rw (sym g.below_same) (omega arith);
+            displacements_long = rw (sym g.below_same) (omega arith);
+          }
 
--- the length of a part that is lent
-part_length : {A : Type 0} (l : List A) (at : ℕ) → at ≤ length l → length (take (length l - at) (drop at l)) ≡ length l - at
-part_length l at h = length-take-le (length l - at) (drop at l) (rw (length-drop at l) (omega arith))
-
--- what the call for the next copy asks
-pub descend_asked : (rows places : List ℕ) (i shift : ℕ) (row : Row) (below : Shape) (k to : ℕ) (ws₀ ws : List ℕ) (ds₀ ds : List ℤ) → Descending rows places i shift row below k ws₀ ws ds₀ ds → k < row.copies → to ≡ copy_shift places i k shift below.extent → PlaceAsked rows places row.name to (length (take (length ws - k * below.entries) (drop (k * below.entries) ws))) (length (take (length ds - k * below.entries) (drop (k * below.entries) ds)))
-unfolding copy_shift
-descend_asked rows places i shift row below k to ws₀ ws ds₀ ds g l e =
-    let kept = kept_of rows places i shift row below k ws₀ ws ds₀ ds g in
-    let early = named_earlier rows places i shift (length ws₀) (length ds₀) row g.asked g.row_is g.named in
-    let r = room row.copies k below.entries l in
-    let n = kept.counted in
-    let a = kept.above k l in
-    let b = kept.below' k l in
-    let a' = g.asked.above in
-    let b' = g.asked.below in
-    let iw = descend_in_widths rows places i shift row below k ws₀ ws ds₀ ds g l in
-    let id = descend_in_displacements rows places i shift row below k ws₀ ws ds₀ ds g l in
-    let lw = part_length ws (k * below.entries) iw in
-    let ld = part_length ds (k * below.entries) id in
-    let cw = g.asked.widths_long in
-    let cd = g.asked.displacements_long in
-    let dw = g.copying.widths_long in
-    let dd = g.copying.displacements_long in
-    record {
-      plan = plan_shorter rows places (suc i) (suc row.name) g.asked.plan (omega arith);
-      above = rw (sym g.below_same) (omega arith);
-      below = rw (sym g.below_same) (omega arith);
-      widths_long = rw (sym g.below_same) (omega arith);
-      displacements_long = rw (sym g.below_same) (omega arith);
-    }
-
--- the lists after the next copy
-pub descend_more : (rows places : List ℕ) (i shift : ℕ) (row : Row) (below : Shape) (k to : ℕ) (ws₀ ws : List ℕ) (ds₀ ds : List ℤ) (wp : List ℕ) (dp : List ℤ) → Descending rows places i shift row below k ws₀ ws ds₀ ds → k < row.copies → to ≡ copy_shift places i k shift below.extent → Placed (plan_of rows places row.name) to (take (length ws - k * below.entries) (drop (k * below.entries) ws)) wp (take (length ds - k * below.entries) (drop (k * below.entries) ds)) dp → Descending rows places i shift row below (k + 1) ws₀ (take (k * below.entries) ws ++ (wp ++ drop (length ws - k * below.entries) (drop (k * below.entries) ws))) ds₀ (take (k * below.entries) ds ++ (dp ++ drop (length ds - k * below.entries) (drop (k * below.entries) ds)))
-descend_more rows places i shift row below k to ws₀ ws ds₀ ds wp dp g l e p =
-    let m = child_length rows places i shift row below k ws₀ ws ds₀ ds g in
-    let r = room row.copies k (length (plan_of rows places row.name)) l in
-    let wr = g.copying.widths_room in
-    let dr = g.copying.displacements_room in
-    let at : k * below.entries ≡ k * length (plan_of rows places row.name) = rw m in
-    let new = placed_part places i below.extent (plan_of rows places row.name) k shift (k * below.entries) ws₀ ws ds₀ ds wp dp g.copying.placed at (omega arith) (omega arith) (descend_fits rows places i shift row below k ws₀ ws ds₀ ds g l).not_below (rw e at p) in
-    record {
-      asked = g.asked;
-      row_is = g.row_is;
-      named = g.named;
-      below_same = g.below_same;
-      copying = record {
-        done = omega arith;
-        widths_room = wr;
-        displacements_room = dr;
-        placed = new;
-        widths_long = placed_widths places i below.extent (plan_of rows places row.name) shift (k + 1) ws₀ _ ds₀ _ new (omega arith);
-        displacements_long = placed_displacements places i below.extent (plan_of rows places row.name) shift (k + 1) ws₀ _ ds₀ _ new (omega arith);
-      };
-    }
-
-pub descend_end : (rows places : List ℕ) (i shift : ℕ) (row : Row) (below : Shape) (k : ℕ) (ws₀ ws : List ℕ) (ds₀ ds : List ℤ) → Descending rows places i shift row below k ws₀ ws ds₀ ds → row.copies ≤ k → Placed (plan_of rows places i) shift ws₀ ws ds₀ ds
-unfolding row_of
-descend_end rows places i shift row below k ws₀ ws ds₀ ds g l =
-    let kept = g.asked.plan.row i (omega arith) in
-    let source : nth rows (8 * i + 1) ≢ 1 = rw g.row_is at g.named in
-    let d = g.copying.done in
-    let e : k ≡ row.copies = omega arith in
-    rw (sym (plan_step rows places i source (kept.earlier source))) (rw (e, g.below_same, g.row_is) at g.copying.placed)
-
-pub descend_bytes : (rows places : List ℕ) (i shift : ℕ) (row : Row) (below : Shape) (k : ℕ) (ws₀ ws : List ℕ) (ds₀ ds : List ℤ) → Descending rows places i shift row below k ws₀ ws ds₀ ds → k < row.copies → Fits w64 (k * below.entries * 8)
-descend_bytes rows places i shift row below k ws₀ ws ds₀ ds g l =
-    let kept = kept_of rows places i shift row below k ws₀ ws ds₀ ds g in
-    record { fits = let a = room row.copies k below.entries l in let b = kept.counted in let c = kept.entries_few in omega arith }
-
--- the step that is named has a smaller number
-pub descend_falls : (rows places : List ℕ) (i shift : ℕ) (row : Row) (below : Shape) (k t : ℕ) (ws₀ ws : List ℕ) (ds₀ ds : List ℤ) → Descending rows places i shift row below k ws₀ ws ds₀ ds → i ≡ t → row.name < t
-descend_falls rows places i shift row below k t ws₀ ws ds₀ ds g e = let a = named_earlier rows places i shift (length ws₀) (length ds₀) row g.asked g.row_is g.named in omega arith
+      -- the lists after the next copy
+      pub descend_more : (wp : List ℕ) (dp : List ℤ) → Placed (plan_of rows places step) to (take (length ws - k * below.entries) (drop (k * below.entries) ws)) wp (take (length ds - k * below.entries) (drop (k * below.entries) ds)) dp → Descending rows places i shift n step below (k + 1) ws₀ (take (k * below.entries) ws ++ (wp ++ drop (length ws - k * below.entries) (drop (k * below.entries) ws))) ds₀ (take (k * below.entries) ds ++ (dp ++ drop (length ds - k * below.entries) (drop (k * below.entries) ds)))
+      descend_more wp dp p =
+          let m = child_length in
+          let r = room n k (length (plan_of rows places step)) l in
+          let wr = g.copying.widths_room in
+          let dr = g.copying.displacements_room in
+          let at : k * below.entries ≡ k * length (plan_of rows places step) = rw m in
+          let new = placed_part places i below.extent (plan_of rows places step) k shift (k * below.entries) ws₀ ws ds₀ ds wp dp g.copying.placed at (omega arith) (omega arith) descend_fits.not_below (rw e at p) in
+          record {
+            asked = g.asked;
+            copies_are = g.copies_are;
+            named = g.named;
+            step_is = g.step_is;
+            below_same = g.below_same;
+            copying = record {
+              done = omega arith;
+              widths_room = wr;
+              displacements_room = dr;
+              placed = new;
+              widths_long = placed_widths places i below.extent (plan_of rows places step) shift (k + 1) ws₀ _ ds₀ _ new (omega arith);
+              displacements_long = placed_displacements places i below.extent (plan_of rows places step) shift (k + 1) ws₀ _ ds₀ _ new (omega arith);
+            };
+          }

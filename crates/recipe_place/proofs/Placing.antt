@@ -1,15 +1,15 @@
 -- Placing the copies of a step one after another: what two lists hold after k of them.
-use mathlib.Core.List.{List, [], ◌∷◌, ◌++◌, map, map-append}
+use mathlib.Core.List.{List, [], ◌∷◌, ◌++◌, map, map-append, append-nil}
 use lib.IntN.{◌*ℤ◌, +ℤ_idl}
-use lib.ListN.{length-map}
+use lib.ListN.{length-map, replicate-append-replicate}
 use native.Mathlib.Numerals.{add-one}
-use Rattle.laws.proofs.Prelude.{ℕ, ◌+◌, ◌-◌, ◌*◌, ◌≤◌, ◌<◌, ◌≡◌, refl, sym, ap, ◌∙◌, arith, length, nth, set, take, drop, ℤ, pos, ◌+ℤ◌, sub_ℕ, Fits, w64, to_z, of_z, to_z_pos, mul-le-mul, length-set}
+use Rattle.laws.proofs.Prelude.{zero, suc, ℕ, ◌+◌, ◌-◌, ◌*◌, ◌≤◌, ◌<◌, ◌≡◌, refl, sym, ap, ◌∙◌, arith, length, nth, set, take, drop, ℤ, pos, ◌+ℤ◌, sub_ℕ, w64, to_z, to_z_pos, length-take-le, replicate, length-replicate, drop_of_length-le}
 use Rattle.recipe_types.specs.Typemaps.{Entry, basic, joined, shifted}
 use Rattle.recipe_types.specs.Recipes.{over}
 use Rattle.recipe_types.specs.Parts.{bias, max_place}
 use Rattle.recipe_types.proofs.Integers.{sub_is, sum_is, times_is, self_is, is_equal, sub_pos}
 use Rattle.recipe_place.specs.declared.Row.{Row}
-use Rattle.recipe_place.specs.Parts.{plan_copies, basic_copies, copy_shift, CopyFits, BasicFits, widths_of, displacements_of, Placed}
+use Rattle.recipe_place.specs.Parts.{plan_copies, basic_copies, copy_shift, BasicFits, widths_of, displacements_of, Placed}
 use Rattle.recipe_place.proofs.Fronts.{over_none, over_length, over_set, over_part}
 use Rattle.recipe_place.proofs.Plans.{copies_length}
 
@@ -72,29 +72,34 @@ entry_at : (places : List ℕ) (i w k shift : ℕ) → bias * w + max_place ≤ 
 unfolding copy_shift
 entry_at places i w k shift h = +ℤ_idl _ ∙ sub_pos (copy_shift places i k shift w) max_place (copy_shift places i k shift w - max_place) (omega arith)
 
--- a basic type's entry, put after those placed before
-pub placed_entry : (places : List ℕ) (i w k shift : ℕ) (ws₀ ws : List ℕ) (ds₀ ds : List ℤ) → Placed (plan_copies places i w (basic w).entries k) shift ws₀ ws ds₀ ds → k < length ws₀ → k < length ds₀ → bias * w + max_place ≤ shift + nth places (256 * i + k) * w → Placed (plan_copies places i w (basic w).entries (k + 1)) shift ws₀ (set ws k w) ds₀ (set ds k (pos (copy_shift places i k shift w - max_place)))
-unfolding basic widths_of displacements_of
-placed_entry places i w k shift ws₀ ws ds₀ ds p hw hd hs =
+-- a basic type's displacement, put after those placed before
+displaced_entry : (places : List ℕ) (i w k shift : ℕ) (ds₀ ds : List ℤ) → ds ≡ over (displacements_of (plan_copies places i w (basic w).entries k) shift) ds₀ → k < length ds₀ → bias * w + max_place ≤ shift + nth places (256 * i + k) * w → set ds k (pos (copy_shift places i k shift w - max_place)) ≡ over (displacements_of (plan_copies places i w (basic w).entries (k + 1)) shift) ds₀
+unfolding basic displacements_of
+displaced_entry places i w k shift ds₀ ds p hd hs =
     let l = (basic w).entries in
     let n = copies_length places i w l k in
-    let wl = widths_length (plan_copies places i w l k) in
     let dl = displacements_length (plan_copies places i w l k) shift in
-    let a : length (widths_of (plan_copies places i w l k)) ≡ k = omega arith in
     let b : length (displacements_of (plan_copies places i w l k) shift) ≡ k = omega arith in
-    record {
-      widths = rw p.widths (rw a at (over_set (widths_of (plan_copies places i w l k)) ws₀ w (omega arith))) ∙ ap (λ r. over r ws₀) (sym (widths_more places i w l k));
-      displacements = rw p.displacements (rw b at (over_set (displacements_of (plan_copies places i w l k) shift) ds₀ (pos (copy_shift places i k shift w - max_place)) (omega arith))) ∙ ap (λ r. over (displacements_of (plan_copies places i w l k) shift ++ (r ∷ [])) ds₀) (sym (entry_at places i w k shift hs)) ∙ ap (λ r. over r ds₀) (sym (displacements_more places i w l k shift (omega arith)));
-    }
+    rw p (rw b at (over_set (displacements_of (plan_copies places i w l k) shift) ds₀ (pos (copy_shift places i k shift w - max_place)) (omega arith))) ∙ ap (λ r. over (displacements_of (plan_copies places i w l k) shift ++ (r ∷ [])) ds₀) (sym (entry_at places i w k shift hs)) ∙ ap (λ r. over r ds₀) (sym (displacements_more places i w l k shift (omega arith)))
 
--- ---- what the copies ask of the numbers
+-- a basic type's widths, all put at once
+widths_basic : (places : List ℕ) (i w k : ℕ) → widths_of (plan_copies places i w (basic w).entries k) ≡ replicate k w
+unfolding basic widths_of plan_copies joined
+widths_basic places i w zero = refl
+widths_basic places i w (suc k) = ap (λ r. widths_of (plan_copies places i w (basic w).entries r)) (sym (add-one k)) ∙ widths_more places i w (basic w).entries k ∙ ap (λ r. r ++ (w ∷ [])) (widths_basic places i w k) ∙ replicate-append-replicate k 1 w ∙ ap (λ r. replicate r w) (add-one k)
 
--- a place times an extent
-pub place_fits : (places : List ℕ) (i k shift extent : ℕ) → CopyFits places i k shift extent → Fits w64 (nth places (256 * i + k) * extent)
-place_fits places i k shift extent h = record { fits = let b = mul-le-mul {n₁ = nth places (256 * i + k)} {m₁ = extent} {n₂ = 2147483648} {m₂ = 1048576} h.place_small h.extent_small in omega arith }
+widths_filled : (places : List ℕ) (i w n : ℕ) (ws₀ part : List ℕ) → n ≤ length ws₀ → part ≡ replicate (length (take n ws₀)) w → part ++ drop n ws₀ ≡ over (widths_of (plan_copies places i w (basic w).entries n)) ws₀
+unfolding over
+widths_filled places i w n ws₀ part h e = rw (e, length-take-le n ws₀ h, widths_basic places i w n, length-replicate n w) refl
 
-pub shift_fits : (places : List ℕ) (i k shift extent : ℕ) → CopyFits places i k shift extent → Fits w64 (shift + nth places (256 * i + k) * extent)
-shift_fits places i k shift extent h = record { fits = let b = mul-le-mul {n₁ = nth places (256 * i + k)} {m₁ = extent} {n₂ = 2147483648} {m₂ = 1048576} h.place_small h.extent_small in let s = h.shift_small in omega arith }
+-- a front that is lent and comes back
+front_part : (a ds part : List ℤ) (n : ℕ) → length a ≡ n → part ≡ over a (take n ds) → n ≤ length ds → part ++ drop n ds ≡ over a ds
+unfolding over
+front_part a ds part n e p h =
+    let z : drop n (take n ds) ≡ [] = drop_of_length-le (take n ds) {i = n} (omega (arith, length-take-le n ds h)) in
+    rw (p, e, z, append-nil a) refl
+
+-- ---- the walk over the copies
 
 -- the lists while copies are placed: k of n copies of m entries are there
 pub record Copying (places : List ℕ) (i extent : ℕ) (l : List Entry) (shift n k : ℕ) (ws₀ ws : List ℕ) (ds₀ ds : List ℤ) : Type 0 where
@@ -105,65 +110,46 @@ pub record Copying (places : List ℕ) (i extent : ℕ) (l : List Entry) (shift 
   pub widths_long : length ws ≡ length ws₀
   pub displacements_long : length ds ≡ length ds₀
 
--- a copy's numbers
-pub basic_fits : (row : Row) (places : List ℕ) (i shift k widths displacements : ℕ) → BasicFits row places i shift widths displacements → k < row.copies → CopyFits places i k shift row.name
-basic_fits row places i shift k widths displacements h l = record {
-  places_long = h.places_long;
-  step = h.step;
-  copy = let f = h.few in omega arith;
-  shift_small = h.shift_small;
-  extent_small = let w = h.width in omega arith;
-  place_small = h.small k l;
-  not_below = let a = h.above k l in omega arith;
-}
-
-pub basic_at_least : (row : Row) (places : List ℕ) (i shift k widths displacements to : ℕ) → BasicFits row places i shift widths displacements → k < row.copies → to ≡ copy_shift places i k shift row.name → 1048576 ≤ to
-unfolding copy_shift
-basic_at_least row places i shift k widths displacements to h l e = let a = h.above k l in omega arith
-
-pub basic_at_most : (row : Row) (places : List ℕ) (i shift k widths displacements to : ℕ) → BasicFits row places i shift widths displacements → k < row.copies → to ≡ copy_shift places i k shift row.name → to ≤ 2097152
+basic_at_most : (row : Row) (places : List ℕ) (i shift k widths displacements to : ℕ) → BasicFits row places i shift widths displacements → k < row.copies → to ≡ copy_shift places i k shift row.name → to ≤ 2097152
 unfolding copy_shift
 basic_at_most row places i shift k widths displacements to h l e = let a = h.below k l in omega arith
 
-pub basic_none : (row : Row) (places : List ℕ) (i shift : ℕ) (ws : List ℕ) (ds : List ℤ) → BasicFits row places i shift (length ws) (length ds) → Copying places i row.name (basic row.name).entries shift row.copies 0 ws ws ds ds
-unfolding basic
-basic_none row places i shift ws ds h = record {
+-- the part of the displacements while copies of a basic type are placed: k of n are there
+pub record Displacing (places : List ℕ) (i w shift n k : ℕ) (ds₀ ds : List ℤ) : Type 0 where
+  pub done : k ≤ n
+  pub long : length ds₀ ≡ n
+  pub placed : ds ≡ over (displacements_of (plan_copies places i w (basic w).entries k) shift) ds₀
+
+pub basic_none : (row : Row) (places : List ℕ) (i shift widths : ℕ) (ds : List ℤ) → BasicFits row places i shift widths (length ds) → Displacing places i row.name shift row.copies 0 (take row.copies ds) (take row.copies ds)
+unfolding displacements_of plan_copies joined
+basic_none row places i shift widths ds h = record {
   done = omega arith;
-  widths_room = let a = h.widths_long in omega arith;
-  displacements_room = let a = h.displacements_long in omega arith;
-  placed = placed_none places i row.name (basic row.name).entries shift ws ds;
-  widths_long = refl;
-  displacements_long = refl;
+  long = length-take-le row.copies ds h.displacements_long;
+  placed = over_none (take row.copies ds);
 }
 
-pub basic_more : (row : Row) (places : List ℕ) (i shift k to : ℕ) (d : ℤ) (ws₀ ws : List ℕ) (ds₀ ds : List ℤ) → BasicFits row places i shift (length ws₀) (length ds₀) → Copying places i row.name (basic row.name).entries shift row.copies k ws₀ ws ds₀ ds → k < row.copies → to ≡ copy_shift places i k shift row.name → d ≡ pos (to - 1048576) → Copying places i row.name (basic row.name).entries shift row.copies (k + 1) ws₀ (set ws k row.name) ds₀ (set ds k (to_z w64 (of_z w64 d)))
-unfolding basic
-basic_more row places i shift k to d ws₀ ws ds₀ ds h g l e f =
-    let wr = g.widths_room in
-    let dr = g.displacements_room in
-    let most = basic_at_most row places i shift k (length ws₀) (length ds₀) to h l e in
-    let stored : to_z w64 (of_z w64 d) ≡ pos (copy_shift places i k shift row.name - max_place) = rw (f, e) (to_z_pos w64 (omega arith)) in
+pub basic_more : (row : Row) (places : List ℕ) (i shift k to widths displacements : ℕ) (ds₀ ds : List ℤ) → BasicFits row places i shift widths displacements → Displacing places i row.name shift row.copies k ds₀ ds → k < length ds₀ → to ≡ copy_shift places i k shift row.name → Displacing places i row.name shift row.copies (k + 1) ds₀ (set ds k (to_z w64 (to - 1048576)))
+basic_more row places i shift k to widths displacements ds₀ ds h g l e =
+    let b : k < row.copies = omega (arith, g.long) in
+    let most = basic_at_most row places i shift k widths displacements to h b e in
+    let stored : to_z w64 (to - 1048576) ≡ pos (copy_shift places i k shift row.name - max_place) = rw e (to_z_pos w64 (omega arith)) in
     rw stored (record {
       done = omega arith;
-      widths_room = wr;
-      displacements_room = dr;
-      placed = placed_entry places i row.name k shift ws₀ ws ds₀ ds g.placed (omega arith) (omega arith) (h.above k l);
-      widths_long = length-set ws k row.name ∙ g.widths_long;
-      displacements_long = length-set ds k (pos (copy_shift places i k shift row.name - max_place)) ∙ g.displacements_long;
+      long = g.long;
+      placed = displaced_entry places i row.name k shift ds₀ ds g.placed l (h.above k b);
     })
 
-pub basic_end : (row : Row) (places : List ℕ) (i shift k : ℕ) (ws₀ ws : List ℕ) (ds₀ ds : List ℤ) → Copying places i row.name (basic row.name).entries shift row.copies k ws₀ ws ds₀ ds → row.copies ≤ k → Placed (basic_copies row places i) shift ws₀ ws ds₀ ds
-unfolding basic_copies
-basic_end row places i shift k ws₀ ws ds₀ ds g l = let e : k ≡ row.copies = let d = g.done in omega arith in rw e at g.placed
-
--- there is room for the next entry
-pub basic_in_widths : (row : Row) (places : List ℕ) (i shift k : ℕ) (ws₀ ws : List ℕ) (ds₀ ds : List ℤ) → Copying places i row.name (basic row.name).entries shift row.copies k ws₀ ws ds₀ ds → k < row.copies → k < length ws
-unfolding basic
-basic_in_widths row places i shift k ws₀ ws ds₀ ds g l = let r = g.widths_room in let e = g.widths_long in omega arith
-
-pub basic_in_displacements : (row : Row) (places : List ℕ) (i shift k : ℕ) (ws₀ ws : List ℕ) (ds₀ ds : List ℤ) → Copying places i row.name (basic row.name).entries shift row.copies k ws₀ ws ds₀ ds → k < row.copies → k < length ds
-unfolding basic
-basic_in_displacements row places i shift k ws₀ ws ds₀ ds g l = let r = g.displacements_room in let e = g.displacements_long in omega arith
+pub basic_end : (row : Row) (places : List ℕ) (i shift k : ℕ) (ws wp : List ℕ) (ds dp : List ℤ) → BasicFits row places i shift (length ws) (length ds) → wp ≡ replicate (length (take row.copies ws)) row.name → Displacing places i row.name shift row.copies k (take row.copies ds) dp → length (take row.copies ds) ≤ k → Placed (basic_copies row places i) shift ws (wp ++ drop row.copies ws) ds (dp ++ drop row.copies ds)
+unfolding basic_copies basic
+basic_end row places i shift k ws wp ds dp h w g l =
+    let e : k ≡ row.copies = let d = g.done in omega (arith, g.long) in
+    let c = plan_copies places i row.name (basic row.name).entries row.copies in
+    let n = copies_length places i row.name (basic row.name).entries row.copies in
+    let dl = displacements_length c shift in
+    record {
+      widths = widths_filled places i row.name row.copies ws wp h.widths_long w;
+      displacements = front_part (displacements_of c shift) ds dp row.copies (omega arith) (rw e at g.placed) h.displacements_long;
+    }
 
 -- the lengths stay
 pub placed_widths : (places : List ℕ) (i extent : ℕ) (l : List Entry) (shift k : ℕ) (ws₀ ws : List ℕ) (ds₀ ds : List ℤ) → Placed (plan_copies places i extent l k) shift ws₀ ws ds₀ ds → k * length l ≤ length ws₀ → length ws ≡ length ws₀

@@ -1,7 +1,7 @@
 -- The entries that a table stands for: those of a step are copies of those of what it names, as many as its row says.
 use mathlib.Core.List.{List}
 use lib.ListN.{length-map}
-use Rattle.laws.proofs.Prelude.{ℕ, zero, suc, ◌+◌, ◌-◌, ◌*◌, ◌≤◌, ◌<◌, ◌≡◌, ◌≢◌, ◌⊎◌, ⊎_elim, refl, sym, ap, ◌∙◌, arith, length, nth, eq-eqb, ne_eqb, eq-or-lt_of_le, eq_or_ne}
+use Rattle.laws.proofs.Prelude.{ℕ, zero, suc, ◌+◌, ◌*◌, ◌≤◌, ◌<◌, ◌≡◌, ◌≢◌, ⊎_elim, refl, sym, ap, ◌∙◌, arith, length, nth, eq-eqb, ne_eqb, eq-or-lt_of_le, eq_or_ne}
 use Rattle.recipe_types.specs.Typemaps.{Entry, basic}
 use Rattle.recipe_types.specs.Parts.{shape_at, shape_below, shape_named, basic_shape}
 use Rattle.recipe_types.proofs.Building.{length_joined}

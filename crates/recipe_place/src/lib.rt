@@ -1,21 +1,13 @@
 //! Placing the entries of a step: each copy of what it names, an earlier step or a basic width, with a shift. For our own crates.
 #![tactic(auto)]
 
-ghost use Rattle.std.specs.Prelude.{◌≡◌, ◌+◌, ◌-◌, ◌*◌, ◌≤◌, ◌<◌, pos, length};
+ghost use Rattle.std.specs.Prelude.{◌≡◌, ◌<◌, length};
 ghost use Rattle.recipe_place.specs.Parts.{row_of, CopyFits, copy_shift, BasicFits, basic_copies, PlaceAsked, Placed, plan_of};
 
 // What is added to a shift, which may be negative: 2^20.
 pub const SHIFT_BIAS: u64 = 1048576;
 
-// The displacement of an entry at 0 that is shifted.
-fn displacement_at(shift: u64) -> i64
-    requires { (1048576 ≤ shift) × (shift ≤ 2097152) }
-    ensures { result ≡ pos (shift - 1048576) }
-{
-    (shift - SHIFT_BIAS) as i64
-}
-
-// What a row says of a step: how many copies, and what it names.
+// What a row says of a step: how many copies, and what it names. Source and name stay two numbers, as the table has them and `shape_named` takes them: they are told apart once, in `place`.
 #[derive(Clone, Copy)]
 struct Row {
     copies: usize,
@@ -23,6 +15,8 @@ struct Row {
     name: u64,
 }
 
+// What row `i` says. The rows are lent as a slice: `place` hands on the part of a table that it was lent.
+#[tactic(auto, unfolding(crate::specs::Parts::row_of))]
 fn row_at(rows: &[u64], i: usize) -> Row
     requires { (i < 32) × (length rows.now ≡ 256) }
     ensures { result ≡ row_of rows.now i }
@@ -36,6 +30,7 @@ fn row_at(rows: &[u64], i: usize) -> Row
 }
 
 // The shift of copy `k` of step `i`, where the step itself is shifted.
+#[tactic(auto, unfolding(crate::specs::Parts::copy_shift))]
 fn copy_shift(places: &[u64], i: usize, k: usize, shift: u64, extent: u64) -> u64
     requires { CopyFits places.now i k shift extent }
     ensures { result ≡ copy_shift places.now i k shift extent }
@@ -45,7 +40,8 @@ fn copy_shift(places: &[u64], i: usize, k: usize, shift: u64, extent: u64) -> u6
     from - recipe_types::BIAS * extent
 }
 
-// Puts the entries of step `i`, which names a basic width, at the front of both lists, shifted.
+// Puts the entries of step `i`, which names a basic width, at the front of both lists, shifted. The two lists are lent apart, as `flatten` has them, and their parts go on apart.
+#[tactic(auto, unfolding(crate::specs::Parts::copy_shift))]
 fn place_basic(
     row: Row,
     places: &[u64],
@@ -57,16 +53,16 @@ fn place_basic(
     requires { BasicFits row places.now i shift (length widths.old) (length displacements.old) }
     ensures { Placed (basic_copies row places.now i) shift widths.old widths.new displacements.old displacements.new }
 {
-    let mut k = 0;
-    while k < row.copies {
+    let n = row.copies;
+    widths[..n].fill(row.name);
+    for (k, displacement) in displacements[..n].iter_mut().enumerate() {
         let to = copy_shift(places, i, k, shift, row.name);
-        widths[k] = row.name;
-        displacements[k] = displacement_at(to);
-        k += 1;
+        *displacement = (to - SHIFT_BIAS) as i64;
     }
 }
 
 // Puts the entries of step `i` at the front of both lists, shifted. A step that is named stands before the one that names it.
+// Rows and places come apart: `StepTable` is of recipe_plan, which is not below this crate, and `Plan` speaks of two lists.
 pub fn place(
     rows: &[u64],
     places: &[u64],
@@ -86,8 +82,7 @@ pub fn place(
     let step = row.name as usize;
     let below = recipe_types::shape_at(rows, step);
     let entries = below.entries as usize;
-    let mut k = 0;
-    while k < row.copies {
+    for k in 0..row.copies {
         let at = k * entries;
         let to = copy_shift(places, i, k, shift, below.extent);
         place(
@@ -98,6 +93,5 @@ pub fn place(
             &mut widths[at..],
             &mut displacements[at..],
         );
-        k += 1;
     }
 }

@@ -1,19 +1,19 @@
 -- Judging a step: what its checks say of the type that it means, and the table with its row.
 use mathlib.Core.List.{List, [], ◌∷◌, map}
-use Rattle.laws.proofs.Prelude.{ℕ, ◌+◌, ◌-◌, ◌*◌, ◌≤◌, ◌<◌, ◌≡◌, ◌≢◌, refl, sym, ap, ◌∙◌, Bool, true, false, not, ◌⊎◌, inl, inr, ⊎_elim, within, arith, length, nth, eqb, eqb-true, lt-leb, le-leb, ltb-true, also_inv, either_inv, check, check_yes, check_no, check_inv, Fits, w64, mul-le-mul, lt_or_le, unflag_true, unflag_false, pos, sub_ℕ, not-true, not-false}
+use Rattle.laws.proofs.Prelude.{ℕ, ◌+◌, ◌*◌, ◌≤◌, ◌<◌, ◌≡◌, ◌≢◌, refl, sym, ap, ◌∙◌, Bool, true, false, ◌⊎◌, inl, inr, ⊎_elim, within, arith, length, nth, eqb, eqb-true, lt-leb, le-leb, ltb-true, also_inv, either_inv, check, check_yes, check_no, check_inv, mul-le-mul, lt_or_le, pos, sub_ℕ}
 use Rattle.view.specs.Limits.{width_allowed}
 use Rattle.recipe_types.specs.declared.Shape.{Shape}
 use Rattle.recipe_types.specs.Typemaps.{Entry, Typemap, end_of, basic}
 use Rattle.recipe_types.specs.Recipes.{Recipe, recipe_of, step_number, recipe_step, construct, step_type, names, none_zero, dimensions_allowed, entry_count_allowed, limits_kept}
-use Rattle.recipe_types.specs.Parts.{bias, copies_of, step_near, Capped, Known, Above, Each, Some, more, here, later, shape_at, basic_shape, shape_named, Nameable, Basic}
+use Rattle.recipe_types.specs.Parts.{bias, copies_of, step_near, limits_by, Known, Above, Each, Some, more, here, later, shape_at, basic_shape, shape_named, Nameable, Basic}
 use Rattle.recipe_types.proofs.Integers.{pos_is, sum_is, is_once, same_is}
 use Rattle.recipe_types.proofs.Building.{type_is_basic, type_is_step, entry_count, copies_some}
-use Rattle.recipe_types.proofs.Shapes.{basic_known, limits_judged, known_made, far_limits}
+use Rattle.recipe_types.proofs.Shapes.{basic_known, limits_judged, known_made}
 use Rattle.recipe_steps.specs.declared.StepNumbers.{StepNumbers}
 use Rattle.recipe_steps.specs.Parts.{numbers_at, step_by, names_by, Sound}
 use Rattle.recipe_steps.proofs.Steps.{names_is, step_is}
 use Rattle.recipe_plan.specs.declared.Span.{Span}
-use Rattle.recipe_plan.specs.Parts.{StepKnown, Table, sound_refusal, inner_refusal, Judged, Facing, PutAsked, RowPut, StepPut, FewCopies}
+use Rattle.recipe_plan.specs.Parts.{StepKnown, sound_refusal, inner_refusal, Judged, Facing, PutAsked, RowPut, StepPut}
 
 -- ---- the least displacement is at most the greatest end
 
@@ -129,51 +129,25 @@ inner_is steps items i s below g =
 entries_are : (steps items : List ℕ) (i : ℕ) (s : StepNumbers) (below : Shape) (g : Standing steps items i s below) → length (construct (step_by items s) g.old).entries ≡ copies_of (step_by items s) * below.entries
 entries_are steps items i s below g = entry_count (step_by items s) g.old ∙ ap (λ m. copies_of (step_by items s) * m) g.known.counted
 
-refused_many : (steps items rows places : List ℕ) (i : ℕ) (s : StepNumbers) (below : Shape) → Facing steps items rows places i s below → (rows' places' : List ℕ) → 256 < copies_of (step_by items s) * below.entries → Judged (recipe_of steps items) i rows' places' 30
+pub refused_many : (steps items rows places : List ℕ) (i : ℕ) (s : StepNumbers) (below : Shape) → Facing steps items rows places i s below → (rows' places' : List ℕ) → 256 < copies_of (step_by items s) * below.entries → Judged (recipe_of steps items) i rows' places' 30
 unfolding entry_count_allowed
 refused_many steps items rows places i s below f rows' places' h =
     let g = standing steps items rows places i s below f in
     let e = entries_are steps items i s below g in
     judged_refused (recipe_of steps items) i rows' places' 30 (check_no _ 30 _ 30 (lt-leb (length (construct (step_by items s) g.old).entries) 256 (omega arith)) refl ∙ inner_is steps items i s below g) (λ z. omega arith)
 
--- too many entries
-pub refused_entries : (steps items rows places : List ℕ) (i n : ℕ) (s : StepNumbers) (below : Shape) → Facing steps items rows places i s below → FewCopies (copies_of (step_by items s)) below.entries n → n ≡ 0 → Judged (recipe_of steps items) i rows places 30
-refused_entries steps items rows places i n s below f c z = refused_many steps items rows places i s below f rows places (c.many z)
-
 -- a limit
-refused_limit : (steps items : List ℕ) (i : ℕ) (s : StepNumbers) (below : Shape) (g : Standing steps items i s below) (rows places : List ℕ) → copies_of (step_by items s) * below.entries ≤ 256 → limits_kept (construct (step_by items s) g.old) ≡ false → Judged (recipe_of steps items) i rows places 31
+pub refused_limit : (steps items : List ℕ) (i : ℕ) (s : StepNumbers) (below : Shape) (g : Standing steps items i s below) (rows places : List ℕ) → copies_of (step_by items s) * below.entries ≤ 256 → limits_kept (construct (step_by items s) g.old) ≡ false → Judged (recipe_of steps items) i rows places 31
 unfolding entry_count_allowed
 refused_limit steps items i s below g rows places m l =
     let e = entries_are steps items i s below g in
     judged_refused (recipe_of steps items) i rows places 31 (check_yes _ 30 _ 31 (le-leb (length (construct (step_by items s) g.old).entries) 256 (omega arith)) (check_no _ 31 _ 31 l refl) ∙ inner_is steps items i s below g) (λ z. omega arith)
-
-pub refused_far : (steps items rows places : List ℕ) (i n : ℕ) (s : StepNumbers) (below : Shape) (near : Bool) → Facing steps items rows places i s below → FewCopies (copies_of (step_by items s)) below.entries n → n ≢ 0 → near ≡ step_near (step_by items s) → not near ≡ true → Judged (recipe_of steps items) i rows places 31
-refused_far steps items rows places i n s below near f c z e k =
-    let g = standing steps items rows places i s below f in
-    let q = c.same z in
-    refused_limit steps items i s below g rows places (rw q.0 at q.1) (far_limits (step_by items s) g.old below g.known g.sound.zeros g.sound.dimensions (unflag_false near _ e k))
 
 -- ---- a step in the table
 
 pub either_way : (b : Bool) → (b ≡ true) ⊎ (b ≡ false)
 either_way true = inl refl
 either_way false = inr refl
-
--- the number of copies
-pub copies_many : (c n entries : ℕ) → Capped 256 c n → 1 ≤ entries → 256 < n → FewCopies c entries 0
-copies_many c n entries k o h = record {
-  many = λ z. let a = k.above h in let b = mul-le-mul {n₁ = c} {m₁ = 1} {n₂ = c} {m₂ = entries} (omega arith) o in omega arith;
-  same = λ z. absurd (z refl);
-}
-
-pub entries_many : (c n entries : ℕ) → Capped 256 c n → n ≤ 256 → 256 < n * entries → FewCopies c entries 0
-entries_many c n entries k h m = record { many = λ z. rw (k.same h) at m; same = λ z. absurd (z refl) }
-
-pub copies_few : (c n entries : ℕ) → Capped 256 c n → 1 ≤ c → n ≤ 256 → n * entries ≤ 256 → FewCopies c entries n
-copies_few c n entries k o h m = record { many = λ z. absurd (let e = k.same h in omega arith); same = λ z. (k.same h, m) }
-
-pub entries_fits : (n entries : ℕ) → n ≤ 256 → entries ≤ 256 → Fits w64 (n * entries)
-entries_fits n entries h g = record { fits = let b = mul-le-mul {n₁ = n} {m₁ = entries} {n₂ = 256} {m₂ = 256} h g in omega arith }
 
 pub sound_some : (items : List ℕ) (s : StepNumbers) → Sound items s → 1 ≤ copies_of (step_by items s)
 sound_some items s h = copies_some (step_by items s) h.zeros
@@ -189,23 +163,19 @@ nameable steps items i s e h l =
     let c = sound_are items s i (rw e h) in
     record { earlier = λ n. ⊎_elim (λ b. absurd (n b.0)) (λ b. let q = b.1 in omega arith) (names_are s i c.0).1 }
 
-pub sound_passed : (steps items : List ℕ) (i refusal : ℕ) (s : StepNumbers) → s ≡ numbers_at steps i → refusal ≡ sound_refusal items s i → refusal ≡ 0 → sound_refusal items (numbers_at steps i) i ≡ 0
-sound_passed steps items i refusal s e h z = rw (sym e) (sym h ∙ z)
-
-pub put_asked : (steps items rows places : List ℕ) (i n : ℕ) (s : StepNumbers) (below : Shape) (near : Bool) → Facing steps items rows places i s below → FewCopies (copies_of (step_by items s)) below.entries n → n ≢ 0 → near ≡ step_near (step_by items s) → not near ≡ false → PutAsked items s i n below rows places
-put_asked steps items rows places i n s below near f c z e k =
+-- its copies are few and near
+pub put_asked : (steps items rows places : List ℕ) (i n : ℕ) (s : StepNumbers) (below : Shape) → Facing steps items rows places i s below → copies_of (step_by items s) * below.entries ≤ 256 → n ≡ copies_of (step_by items s) → step_near (step_by items s) ≡ true → PutAsked items s i n below rows places
+put_asked steps items rows places i n s below f few e near =
     let g = standing steps items rows places i s below f in
     let known = g.known in
-    let q = c.same z in
-    let few = rw q.0 at q.1 in
     let some = copies_some (step_by items s) g.sound.zeros in
     let one = mul-le-mul {n₁ = copies_of (step_by items s)} {m₁ = 1} {n₂ = copies_of (step_by items s)} {m₂ = below.entries} (omega arith) known.some in
     record {
-      placeable = record { sound = g.sound; few = omega arith; near = unflag_true near _ e k };
-      copies = q.0;
-      some = rw q.0 some;
+      placeable = record { sound = g.sound; few = omega arith; near = near };
+      copies = e;
+      some = rw e some;
       below_some = known.some;
-      entries = q.1;
+      entries = rw e few;
       extent = known.extent_few;
       least = known.least_few;
       end = known.end_few;
@@ -215,17 +185,11 @@ put_asked steps items rows places i n s below near f c z e k =
       places_long = f.table.places_long;
     }
 
-limits_are : (steps items rows places : List ℕ) (i n : ℕ) (s : StepNumbers) (below : Shape) (rows' places' : List ℕ) (kept : Bool) (f : Facing steps items rows places i s below) → StepPut items s i n below rows places rows' places' kept → limits_kept (construct (step_by items s) (standing steps items rows places i s below f).old) ≡ kept
-limits_are steps items rows places i n s below rows' places' kept f p =
+-- check 31
+limits_are : (steps items rows places : List ℕ) (i n : ℕ) (s : StepNumbers) (below : Shape) (rows' places' : List ℕ) (refusal : ℕ) (f : Facing steps items rows places i s below) (p : StepPut items s i n below rows places rows' places' refusal) → limits_kept (construct (step_by items s) (standing steps items rows places i s below f).old) ≡ limits_by (step_by items s) below p.span.low p.span.high
+limits_are steps items rows places i n s below rows' places' refusal f p =
     let g = standing steps items rows places i s below f in
-    limits_judged (step_by items s) g.old below p.part p.span.low p.span.high g.known g.sound.zeros p.put p.spans ∙ sym p.answer
-
--- it breaks a limit
-pub step_broken : (steps items rows places : List ℕ) (i n : ℕ) (s : StepNumbers) (below : Shape) (rows' places' : List ℕ) (kept : Bool) → Facing steps items rows places i s below → FewCopies (copies_of (step_by items s)) below.entries n → n ≢ 0 → StepPut items s i n below rows places rows' places' kept → not kept ≡ true → Judged (recipe_of steps items) i rows' places' 31
-step_broken steps items rows places i n s below rows' places' kept f c z p k =
-    let g = standing steps items rows places i s below f in
-    let q = c.same z in
-    refused_limit steps items i s below g rows' places' (rw q.0 at q.1) (limits_are steps items rows places i n s below rows' places' kept f p ∙ not-true kept k)
+    limits_judged (step_by items s) g.old below p.part p.span.low p.span.high g.known g.sound.zeros p.put p.spans
 
 -- the rows of the steps before stay what they are
 row_stays : (r : Recipe) (items : List ℕ) (s : StepNumbers) (i n : ℕ) (below : Shape) (part : List ℕ) (span : Span) (rows places rows' places' : List ℕ) (j : ℕ) → RowPut items s i n below part span rows places rows' places' → j < i → StepKnown r rows places j → StepKnown r rows' places' j
@@ -246,18 +210,15 @@ row_stays r items s i n below part span rows places rows' places' j p l k =
     }
 
 -- it keeps the limits, and the table has it
-pub step_kept : (steps items rows places : List ℕ) (i n : ℕ) (s : StepNumbers) (below : Shape) (rows' places' : List ℕ) (kept : Bool) → Facing steps items rows places i s below → FewCopies (copies_of (step_by items s)) below.entries n → n ≢ 0 → StepPut items s i n below rows places rows' places' kept → not kept ≡ false → Judged (recipe_of steps items) i rows' places' 0
+step_kept : (steps items rows places : List ℕ) (i n : ℕ) (s : StepNumbers) (below : Shape) (rows' places' : List ℕ) (refusal : ℕ) → Facing steps items rows places i s below → copies_of (step_by items s) * below.entries ≤ 256 → n ≡ copies_of (step_by items s) → (p : StepPut items s i n below rows places rows' places' refusal) → limits_by (step_by items s) below p.span.low p.span.high ≡ true → refusal ≡ 0 → Judged (recipe_of steps items) i rows' places' refusal
 unfolding entry_count_allowed numbers_at step_number
-step_kept steps items rows places i n s below rows' places' kept f c z p k =
+step_kept steps items rows places i n s below rows' places' refusal f few copies p kept z =
     let r = recipe_of steps items in
     let g = standing steps items rows places i s below f in
-    let yes = not-false kept k in
-    let put = p.row yes in
-    let copies : n ≡ copies_of (step_by items s) = (c.same z).0 in
-    let few : copies_of (step_by items s) * below.entries ≤ 256 = rw copies at (c.same z).1 in
+    let put = p.row z in
     let one = mul-le-mul {n₁ = copies_of (step_by items s)} {m₁ = 1} {n₂ = copies_of (step_by items s)} {m₂ = below.entries} (omega arith) g.known.some in
     let e = entries_are steps items i s below g in
-    let made = known_made (step_by items s) g.old below p.part p.span.low p.span.high g.known g.sound.zeros p.put p.spans (sym p.answer ∙ yes) few in
+    let made = known_made (step_by items s) g.old below p.part p.span.low p.span.high g.known g.sound.zeros p.put p.spans kept few in
     let here : StepKnown r rows' places' i = record {
       sound = f.sound;
       copies = put.copies ∙ copies ∙ ap copies_of g.step_same;
@@ -269,7 +230,7 @@ step_kept steps items rows places i n s below rows' places' kept f c z p k =
       small = λ q b. let b' : q < copies_of (step_by items s) = rw g.step_same b in rw (put.places_are q (omega arith)) (p.put.small q b');
     } in
     record {
-      answer = check_yes _ 30 _ 0 (le-leb (length (construct (step_by items s) g.old).entries) 256 (omega arith)) (check_yes _ 31 _ 0 (limits_are steps items rows places i n s below rows' places' kept f p ∙ yes) refl) ∙ inner_is steps items i s below g;
+      answer = check_yes _ 30 _ refusal (le-leb (length (construct (step_by items s) g.old).entries) 256 (omega arith)) (check_yes _ 31 _ refusal (limits_are steps items rows places i n s below rows' places' refusal f p ∙ kept) z) ∙ inner_is steps items i s below g;
       table = λ _. record {
         rows_long = put.rows_long;
         places_long = put.places_long;
@@ -277,37 +238,12 @@ step_kept steps items rows places i n s below rows' places' kept f c z p k =
       };
     }
 
--- ---- the same from what the code finds one after another
-
-module _ (steps items rows places : List ℕ) (i : ℕ) (s : StepNumbers) (below : Shape) (t : Table (recipe_of steps items) rows places i) (l : i < 32) (h : sound_refusal items (numbers_at steps i) i ≡ 0) (e : s ≡ numbers_at steps i) (b : below ≡ shape_named rows s.source s.name) where
-  facing : Facing steps items rows places i s below
-  facing = record { table = t; step = l; numbers = e; sound = h; below_is = b }
-
-  pub judge_some : 1 ≤ below.entries
-  judge_some = (standing steps items rows places i s below facing).known.some
-
-  pub judge_few : below.entries ≤ 256
-  judge_few = (standing steps items rows places i s below facing).known.few
-
-  module _ (n : ℕ) (c : FewCopies (copies_of (step_by items s)) below.entries n) where
-    pub judge_entries : n ≡ 0 → Judged (recipe_of steps items) i rows places 30
-    judge_entries = refused_entries steps items rows places i n s below facing c
-
-    pub judge_near : n ≢ 0 → copies_of (step_by items s) ≤ 256
-    judge_near z =
-        let q = c.same z in
-        let m = rw q.0 at q.1 in
-        let one = mul-le-mul {n₁ = copies_of (step_by items s)} {m₁ = 1} {n₂ = copies_of (step_by items s)} {m₂ = below.entries} (omega arith) judge_some in
-        omega arith
-
-    pub judge_far : (near : Bool) → n ≢ 0 → near ≡ step_near (step_by items s) → not near ≡ true → Judged (recipe_of steps items) i rows places 31
-    judge_far near = refused_far steps items rows places i n s below near facing c
-
-    pub judge_asked : (near : Bool) → n ≢ 0 → near ≡ step_near (step_by items s) → not near ≡ false → PutAsked items s i n below rows places
-    judge_asked near = put_asked steps items rows places i n s below near facing c
-
-    pub judge_broken : (rows' places' : List ℕ) (kept : Bool) → n ≢ 0 → StepPut items s i n below rows places rows' places' kept → not kept ≡ true → Judged (recipe_of steps items) i rows' places' 31
-    judge_broken rows' places' kept = step_broken steps items rows places i n s below rows' places' kept facing c
-
-    pub judge_kept : (rows' places' : List ℕ) (kept : Bool) → n ≢ 0 → StepPut items s i n below rows places rows' places' kept → not kept ≡ false → Judged (recipe_of steps items) i rows' places' 0
-    judge_kept rows' places' kept = step_kept steps items rows places i n s below rows' places' kept facing c
+-- it keeps the limits, or breaks one
+pub step_put : (steps items rows places : List ℕ) (i n : ℕ) (s : StepNumbers) (below : Shape) (rows' places' : List ℕ) (refusal : ℕ) → Facing steps items rows places i s below → copies_of (step_by items s) * below.entries ≤ 256 → n ≡ copies_of (step_by items s) → StepPut items s i n below rows places rows' places' refusal → Judged (recipe_of steps items) i rows' places' refusal
+step_put steps items rows places i n s below rows' places' refusal f few e p =
+    let g = standing steps items rows places i s below f in
+    let limits = limits_by (step_by items s) below p.span.low p.span.high in
+    ⊎_elim
+    (λ k. step_kept steps items rows places i n s below rows' places' refusal f few e p k (p.answer ∙ sym (check_yes limits 31 0 0 k refl)))
+    (λ k. rw (p.answer ∙ sym (check_no limits 31 0 31 k refl)) (refused_limit steps items i s below g rows' places' few (limits_are steps items rows places i n s below rows' places' refusal f p ∙ k)))
+    (either_way limits)

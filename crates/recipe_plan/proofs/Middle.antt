@@ -2,7 +2,7 @@
 use mathlib.Core.List.{List, ◌++◌}
 use lib.ListN.{length-append, get_or-append}
 use lib.Seq.{get_or-append-add, get_or-take, length-take-le}
-use Rattle.laws.proofs.Prelude.{ℕ, ◌+◌, ◌-◌, ◌≤◌, ◌<◌, ◌≡◌, ◌∙◌, arith, length, length-drop, nth, take, drop}
+use Rattle.laws.proofs.Prelude.{ℕ, ◌+◌, ◌≤◌, ◌<◌, ◌≡◌, ◌∙◌, arith, length, length-drop, nth, take, drop}
 
 -- what lies before the part stays
 pub mid_before : (l part rest : List ℕ) (a j : ℕ) → a ≤ length l → j < a → nth (take a l ++ (part ++ rest)) j ≡ nth l j

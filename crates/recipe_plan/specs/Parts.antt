@@ -1,5 +1,5 @@
 -- Need not be believed. The table of the steps that were judged, and what judging a step asks and answers.
-use Rattle.std.specs.Prelude.{ℕ, suc, ◌+◌, ◌*◌, ◌≤◌, ◌<◌, Bool, true, false, List, [], ◌∷◌, ◌≢◌, ◌≡◌, length}
+use Rattle.std.specs.Prelude.{ℕ, suc, ◌+◌, ◌*◌, ◌≤◌, ◌<◌, true, List, [], ◌∷◌, ◌≡◌, length, Result, Ok, Err}
 use Rattle.std.proofs.Math.IntN.{sub_ℕ}
 use Rattle.laws.specs.Checks.{check}
 use Rattle.laws.specs.Lists.{nth}
@@ -9,6 +9,24 @@ use Rattle.recipe_types.specs.Parts.{copies_of, place_of, step_near, max_place, 
 use Rattle.recipe_steps.specs.declared.StepNumbers.{StepNumbers}
 use Rattle.recipe_steps.specs.Parts.{numbers_at, step_by, names_by, Sound, Placeable}
 use Rattle.recipe_plan.specs.declared.Span.{Span}
+use Rattle.recipe_plan.specs.declared.Refusal.{Refusal}
+use Rattle.recipe_plan.specs.declared.Refusal.TheVariants.{Steps, Name, Zero, Dimensions, Entries, Limits, LowerBound, Room}
+
+-- docs/recipes.md's number of a refusal
+abbrev pub recipe_refusal_number : Refusal → ℕ
+recipe_refusal_number Steps = 26
+recipe_refusal_number Name = 27
+recipe_refusal_number Zero = 28
+recipe_refusal_number Dimensions = 29
+recipe_refusal_number Entries = 30
+recipe_refusal_number Limits = 31
+recipe_refusal_number LowerBound = 32
+recipe_refusal_number Room = 33
+
+-- the number of the refusal in an answer, 0 if it is granted
+abbrev pub recipe_refusal_in : {A : Type 0} → Result A Refusal → ℕ
+recipe_refusal_in (Ok _) = 0
+recipe_refusal_in (Err refusal) = recipe_refusal_number refusal
 
 -- checks 27 to 29, by its numbers
 unfoldable pub sound_refusal : List ℕ → StepNumbers → ℕ → ℕ
@@ -36,11 +54,6 @@ pub record Table (r : Recipe) (rows places : List ℕ) (n : ℕ) : Type 0 where
   pub places_long : length places ≡ 8192
   pub each : (i : ℕ) → i < n → StepKnown r rows places i
 
--- ---- the least and the greatest place
-
-pub record SpanOf (l : List ℕ) (n : ℕ) (s : Span) : Type 0 where
-  pub spans : Spans l n s.low s.high
-
 -- ---- the numbers of what a step makes
 
 -- the numbers that it is made from are small
@@ -54,14 +67,9 @@ pub record MakingReady (items : List ℕ) (s : StepNumbers) (t : Shape) (span : 
   pub order : span.low ≤ span.high
   pub small : span.high ≤ 2147483648
 
--- the numbers, or no entry where a limit is broken
-pub record Made (items : List ℕ) (s : StepNumbers) (t : Shape) (span : Span) (r : Shape) : Type 0 where
-  pub kept : limits_by (step_by items s) t span.low span.high ≡ true → r ≡ shape_made (step_by items s) t span.low span.high
-  pub broken : limits_by (step_by items s) t span.low span.high ≡ false → r.entries ≡ 0
-
 -- ---- the row of a step
 
-unfoldable pub row_numbers : ℕ → StepNumbers → Shape → List ℕ
+abbrev pub row_numbers : ℕ → StepNumbers → Shape → List ℕ
 row_numbers n s t = n ∷ s.source ∷ s.name ∷ t.entries ∷ t.extent ∷ t.least ∷ t.end ∷ t.base ∷ []
 
 -- ---- a step in the table
@@ -93,14 +101,14 @@ pub record RowPut (items : List ℕ) (s : StepNumbers) (i n : ℕ) (below : Shap
   pub rows_before : (j : ℕ) → j < 8 * i → nth rows' j ≡ nth rows j
   pub places_before : (j : ℕ) → j < 256 * i → nth places' j ≡ nth places j
 
--- the places of its copies, whether it keeps the limits, and the table if it does
-pub record StepPut (items : List ℕ) (s : StepNumbers) (i n : ℕ) (below : Shape) (rows places rows' places' : List ℕ) (kept : Bool) : Type 0 where
+-- the places of its copies, check 31 of it, and the table if it is granted
+pub record StepPut (items : List ℕ) (s : StepNumbers) (i n : ℕ) (below : Shape) (rows places rows' places' : List ℕ) (refusal : ℕ) : Type 0 where
   pub part : List ℕ
   pub span : Span
   pub put : Places (place_of (step_by items s)) (copies_of (step_by items s)) part
   pub spans : Spans part (copies_of (step_by items s)) span.low span.high
-  pub answer : kept ≡ limits_by (step_by items s) below span.low span.high
-  pub row : kept ≡ true → RowPut items s i n below part span rows places rows' places'
+  pub answer : refusal ≡ check (limits_by (step_by items s) below span.low span.high) 31 0
+  pub row : refusal ≡ 0 → RowPut items s i n below part span rows places rows' places'
 
 -- ---- judging a step
 
@@ -112,11 +120,6 @@ inner_refusal r i =
     (check (dimensions_allowed (recipe_step r i)) 29
     (check (entry_count_allowed (step_type r i)) 30
     (check (limits_kept (step_type r i)) 31 0))))
-
--- a number of copies, or 0 where they have too many entries
-pub record FewCopies (copies entries r : ℕ) : Type 0 where
-  pub many : r ≡ 0 → 256 < copies * entries
-  pub same : r ≢ 0 → (r ≡ copies) × (r * entries ≤ 256)
 
 -- the answer, and the table with the step if it is granted
 pub record Judged (r : Recipe) (i : ℕ) (rows places : List ℕ) (refusal : ℕ) : Type 0 where

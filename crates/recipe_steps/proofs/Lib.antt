@@ -1,12 +1,10 @@
 pub mod Steps
 pub mod Naming
-pub mod Reading
+pub mod Ranges
 pub mod Complement
-pub mod Zeros
 pub mod Arrays
 pub mod Checked
 pub mod Capping
-pub mod Numbering
 pub mod Placing
 pub mod Indexing
 pub mod Elements

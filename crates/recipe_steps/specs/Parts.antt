@@ -55,7 +55,6 @@ pub record PlacesPut (items : List ℕ) (s : StepNumbers) (before after : List �
 
 -- one number of each of n items, to be multiplied up to a limit: none is 0
 pub record Factors (items : List ℕ) (first n which limit : ℕ) : Type 0 where
-  pub number : which < 3
   pub some : all (λ i. some_of (item_number items (first + i) which)) n ≡ true
   pub some_limit : 1 ≤ limit
   pub small_limit : limit ≤ max_place
@@ -73,6 +72,13 @@ dimensions_from items first i = dimension_at items (first + i)
 -- where copy k of blocks of equal length lies
 unfoldable pub vector_place : ℕ → ℤ → ℕ → ℤ
 vector_place each stride k = pos (k / each) *ℤ stride +ℤ pos (k % each)
+
+-- a list has start, start + 1 and so on from `at` on, n numbers; what lies before and behind them and its length stay
+pub record Run (at start n : ℕ) (before after : List ℕ) : Type 0 where
+  pub put : (j : ℕ) → j < n → nth after (at + j) ≡ start + j
+  pub kept : (k : ℕ) → k < at → nth after k ≡ nth before k
+  pub kept_behind : (k : ℕ) → at + n ≤ k → nth after k ≡ nth before k
+  pub length_stays : length after ≡ length before
 
 -- a list has these places at its front, and its length stays
 pub record Put (place : ℕ → ℤ) (n : ℕ) (before after : List ℕ) : Type 0 where

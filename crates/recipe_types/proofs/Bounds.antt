@@ -6,7 +6,7 @@ use Rattle.view.specs.Limits.{entry_displacement_allowed}
 use Rattle.recipe_types.specs.Typemaps.{Entry, Typemap, lower_bound, upper_bound, extent, end_of, markers_else, joined, shifted, copies}
 use Rattle.recipe_types.specs.Recipes.{every}
 use Rattle.recipe_types.specs.Parts.{Above, Lowest, Highest, lowers, uppers, Places, Spans, bias}
-use Rattle.recipe_types.proofs.Integers.{up, down, Difference, self_is, pos_is, sub_is, same_is, sum_is, less_is, times_is, is_equal}
+use Rattle.recipe_types.proofs.Integers.{Difference, self_is, pos_is, sub_is, same_is, sum_is, less_is, times_is, is_equal}
 use Rattle.recipe_types.proofs.Extremes.{each_so, each_some, each_both, each_unmap, some_unmap, every_each, each_every, above_is, above_le, above_trans, least_is, greatest_is, lowest_images, highest_images, lowest_joined, highest_joined}
 
 -- ---- the bounds of a typemap
@@ -36,7 +36,7 @@ allowed_inside w (negsuc n) h = absurd (false≢true h)
 
 -- an entry at 0 or above that ends at 2^20 or below keeps the limits
 inside_allowed : (w : ℕ) (d : ℤ) → Above (pos 0) d → Above (d +ℤ pos w) (pos 1048576) → entry_displacement_allowed w d ≡ true
-unfolding entry_displacement_allowed up down
+unfolding entry_displacement_allowed
 inside_allowed w (pos n) h k = le-leb (n + w) 1048576 (omega (arith, above_le (sum_is (pos_is n) (pos_is w)) (pos_is 1048576) k))
 inside_allowed w (negsuc n) h k = absurd (omega (arith, above_le (pos_is 0) (self_is (negsuc n)) h))
 

@@ -97,7 +97,7 @@ total_some f zero l h = absurd (omega arith)
 total_some f (suc n) l h = omega (arith, h n (omega arith))
 
 -- a product of numbers that are at least 1 is at least 1
-product_some : (f : ℕ → ℕ) (n : ℕ) → ((k : ℕ) → k < n → 1 ≤ f k) → 1 ≤ product f n
+pub product_some : (f : ℕ → ℕ) (n : ℕ) → ((k : ℕ) → k < n → 1 ≤ f k) → 1 ≤ product f n
 unfolding product
 product_some f zero h = omega arith
 product_some f (suc n) h = one-le-mul (product_some f n (λ k l. h k (omega arith))) (h n (omega arith))

@@ -1,4 +1,3 @@
-pub mod Numbers
 pub mod Building
 pub mod Standard
 pub mod Longer

@@ -4,7 +4,7 @@ use lib.IntN.{ℤ, pos, negsuc, ◌+ℤ◌, ◌*ℤ◌, +ℤ_idl, zero-*ℤ, *�
 use native.Mathlib.Nat.{suc-mul}
 use Rattle.laws.proofs.Prelude.{ℕ, zero, suc, ◌+◌, ◌-◌, ◌*◌, ◌/◌, ◌%◌, ◌<◌, ◌≡◌, refl, sym, ap, ◌∙◌, arith, lt-ltb, le-ltb, add-zero, add-suc, one-mul, zero-mul, mod-eq_of_lt, run_div, run_mod, total}
 use Rattle.recipe_types.specs.Typemaps.{Entry, Typemap, Block, Dimension, extent, joined, shifted, copies, bounded, contiguous, vector, indexed, subarray, block_place, element_place, product}
-use Rattle.recipe_types.proofs.Integers.{up, down, Difference, self_is, pos_is, same_is, other_is, sum_is, negative_is, times_is, is_equal}
+use Rattle.recipe_types.proofs.Integers.{Difference, self_is, pos_is, same_is, other_is, sum_is, negative_is, times_is, is_equal}
 use Rattle.recipe_types.proofs.Building.{joined_same, map_joined}
 use Rattle.recipe_types.proofs.Standard.{copies_same, bounded_extent}
 
@@ -12,7 +12,6 @@ use Rattle.recipe_types.proofs.Standard.{copies_same, bounded_extent}
 
 -- a less b, times c less d, is a c + b d less a d + b c
 pub product_is : {z w : ℤ} {a b c d : ℕ} → Difference z a b → Difference w c d → Difference (z *ℤ w) (a * c + b * d) (a * d + b * c)
-unfolding up down
 product_is {z} {w = pos n} {a} {b} {c} {d} p q =
     other_is (a * c + b * d) (a * d + b * c) (omega (arith, ap (λ (x : ℕ). a * x) q.is, ap (λ (x : ℕ). b * x) q.is)) (times_is n p)
 product_is {z} {w = negsuc n} {a} {b} {c} {d} p q =

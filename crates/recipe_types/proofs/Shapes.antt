@@ -1,9 +1,10 @@
 -- A type's numbers: what they say of its typemap, and how a step makes those of the next type.
-use Rattle.laws.proofs.Prelude.{ℕ, zero, suc, ◌+◌, ◌-◌, ◌*◌, ◌/◌, ◌%◌, ◌≤◌, ◌<◌, ◌≡◌, refl, sym, ap, ◌∙◌, Bool, true, false, cond, List, map, arith, ℤ, pos, negsuc, sub_ℕ, ◌+ℤ◌, leb, eqb, eqb-true, eq-eqb, ne_eqb, add-mul, mul-le-mul_right, subst, also, also_inv, either, either_inv, leb-true, leb-false, le-ltb, lt-ltb, within, within_inv, within_high, also_false, true≢false, not_true_false, all, all_at, all_below, least_false, least_false_breaks, total, total_part, eq-or-lt_of_le, div_self, mod_self, iff, ⊎_elim, nth, times_more}
+use Rattle.laws.proofs.Prelude.{ℕ, zero, suc, ◌+◌, ◌-◌, ◌*◌, ◌/◌, ◌%◌, ◌≤◌, ◌<◌, ◌≡◌, refl, sym, ap, ◌∙◌, Bool, true, false, cond, List, map, arith, ℤ, pos, negsuc, sub_ℕ, ◌+ℤ◌, leb, eqb, add-mul, mul-le-mul_right, subst, also, also_inv, either, leb-true, leb-false, le-ltb, lt-ltb, within, within_inv, within_high, also_false, true≢false, not_true_false, all, all_at, all_below, least_false, least_false_breaks, total, total_part, eq-or-lt_of_le, div_self, mod_self, ⊎_elim, nth, times_more}
 use mathlib.Core.List.{[], ◌∷◌}
 use lib.IntN.{◌*ℤ◌, *ℤ_comm}
 use native.Mathlib.Nat.{one-le-mul, le-mul_of_pos_right}
 use borrow.Author.Tests.{eqb-false}
+use Rattle.std.proofs.lemmas.Bool.Decides.{nat_tests}
 use Rattle.view.specs.Types.{whole}
 use Rattle.view.specs.Limits.{width_allowed, entry_displacement_allowed, extent_allowed}
 use Rattle.recipe_types.specs.declared.Shape.{Shape}
@@ -27,9 +28,9 @@ known_extent t s k = is_equal (bound_extent t k.lower k.upper (sub_is s.least s.
 
 -- a less b is 0 if a is b, and only then
 zero_is : {z : ℤ} {a b : ℕ} → Difference z a b → is_zero z ≡ eqb a b
-unfolding is_zero up down
-zero_is {z = pos n} {a} {b} d = iff (eqb n 0) (eqb a b) (λ h. eq-eqb a b (omega (arith, eqb-true n 0 h))) (λ h. eq-eqb n 0 (omega (arith, eqb-true a b h)))
-zero_is {z = negsuc n} {a} {b} d = sym (ne_eqb a b (λ e. omega arith))
+unfolding is_zero
+zero_is {z = pos n} d = grind (arith, nat_tests)
+zero_is {z = negsuc n} d = grind (arith, nat_tests)
 
 -- the lower bound of a known type is 0 if its numbers `least` and `base` are equal, and only then
 pub known_lower : (t : Typemap) (s : Shape) → Known t s → is_zero (lower_bound t) ≡ eqb s.least s.base
@@ -39,15 +40,8 @@ known_lower t s k = zero_is (same_is (lower_is t s k) (sub_is s.least s.base))
 
 -- an allowed width is from 1 to 8
 width_small : (w : ℕ) → width_allowed w ≡ true → (1 ≤ w) × (w ≤ 8)
-unfolding width_allowed
-width_small w h =
-    ⊎_elim (λ e. let q = eqb-true w 1 e in omega arith)
-    (λ f. ⊎_elim (λ e. let q = eqb-true w 2 e in omega arith)
-    (λ g. ⊎_elim (λ e. let q = eqb-true w 4 e in omega arith)
-    (λ e. let q = eqb-true w 8 e in omega arith)
-    (either_inv (eqb w 4) (eqb w 8) g))
-    (either_inv (eqb w 2) (either (eqb w 4) (eqb w 8)) f))
-    (either_inv (eqb w 1) (either (eqb w 2) (either (eqb w 4) (eqb w 8))) h)
+unfolding width_allowed either
+width_small w h = grind (arith, nat_tests)
 
 -- the least of a list of one number, and the greatest
 only_lowest : (x y : ℤ) → x ≡ y → Lowest (x ∷ []) y
@@ -271,7 +265,7 @@ copy_within st t s big l k known made p h =
 
 -- numbers of an entry further than 2^20 extents away, which does not lie inside the limits
 far_outside : (z : ℤ) (ex least w : ℕ) → 1 ≤ ex → least ≤ 1048576 → near z ≡ false → down z * ex ≤ least + up z * ex → least + up z * ex + w ≤ 1048576 + down z * ex → ⊥
-unfolding near up down
+unfolding near
 far_outside (pos m) ex least w some small far a b = omega (arith, leb-false m max_place far, le-mul_of_pos_right {m = ex} m some)
 far_outside (negsuc m) ex least w some small far a b = omega (arith, leb-false (suc m) max_place far, le-mul_of_pos_right {m = ex} (suc m) some)
 

@@ -19,10 +19,11 @@ pub struct Shape {
 pub fn number(l: &[u64], at: usize) -> u64
     ensures { result ≡ nth l.now at }
 {
-    if at < l.len() { l[at] } else { 0 }
+    l.get(at).copied().unwrap_or(0)
 }
 
-// The numbers of the basic type of a width.
+// The numbers of the basic type of a width. A name for what eight places ask.
+#[tactic(auto, unfolding(crate::specs::Parts::basic_shape))]
 pub fn basic_shape(width: u64) -> Shape
     ensures { result ≡ basic_shape width }
 {
@@ -43,12 +44,13 @@ pub const STEP_PLACES: usize = 256;
 // What is added to a place, which may be negative: 2^30.
 pub const BIAS: u64 = 1073741824;
 
-// What a step names: a basic width, or an earlier step.
+// What a step names: a basic width, or an earlier step. A recipe's lent list holds any number here, so this is no enum.
 pub const BASIC: u64 = 1;
 
 pub const STEP: u64 = 2;
 
-// The numbers of the type of step `i`, from the table.
+// The numbers of the type of step `i`, from the table. The rows are lent as a slice: `place` hands on the part of a table that it was lent.
+#[tactic(auto, unfolding(crate::specs::Parts::shape_at))]
 pub fn shape_at(rows: &[u64], i: usize) -> Shape
     requires { (i < 32) × (length rows.now ≡ 256) }
     ensures { result ≡ shape_at rows.now i }
@@ -63,13 +65,15 @@ pub fn shape_at(rows: &[u64], i: usize) -> Shape
     }
 }
 
-// The numbers of the type that is named: a basic type's, or from the table.
+// The numbers of the type that is named: a basic type's, or from the table, lent as for `shape_at`.
+#[tactic(auto, unfolding(crate::specs::Parts::shape_named))]
 pub fn shape_named(rows: &[u64], source: u64, name: u64) -> Shape
     requires { Nameable source name × (length rows.now ≡ 256) }
     ensures { result ≡ shape_named rows.now source name }
 {
     if source == BASIC {
-        return basic_shape(name);
+        basic_shape(name)
+    } else {
+        shape_at(rows, name as usize)
     }
-    shape_at(rows, name as usize)
 }

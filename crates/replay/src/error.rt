@@ -1,10 +1,19 @@
 // What is said on standard error: one line, after which nothing more is printed. Where that cannot be written either, nobody is left to tell.
 use std::alloc::AllocGlobal;
 use std::io;
-use std::io::Eprint;
+use std::io::{Eprint, ErrorKind};
 
 // What stands between the reason that the system gives and its number.
 const NUMBER: &str = " (os error ";
+
+// Why a replay ends before its trace does: the trace cannot be read, or is longer than a replay can count, or its lines cannot be written.
+// No Display: a broken pipe says nothing, and a system's error is printed without its number.
+#[derive(Drop)]
+pub enum Failure {
+    Trace(io::Error),
+    TooLong,
+    Output(io::Error),
+}
 
 // Says how the program is called.
 pub fn usage(rt: &impl Eprint) {
@@ -27,7 +36,19 @@ pub fn fail(rt: &(impl Eprint + AllocGlobal), what: &str, error: io::Error) {
     };
 }
 
-// Says that a trace is longer than a replay can count.
-pub fn too_long(rt: &impl Eprint, name: &str) {
-    let _ = eprintln!(rt; "replay: {name}: the trace is too long");
+impl Failure {
+    // Says why the replay of the trace of this name ended, but for a pipe that nobody reads any more.
+    pub fn say(self, rt: &(impl Eprint + AllocGlobal), name: &str) {
+        match self {
+            Failure::Trace(error) => fail(rt, name, error),
+            Failure::TooLong => {
+                let _ = eprintln!(rt; "replay: {name}: the trace is too long");
+            }
+            Failure::Output(error) => {
+                if error.kind() != ErrorKind::BrokenPipe {
+                    fail(rt, "standard output", error);
+                }
+            }
+        }
+    }
 }

@@ -1,19 +1,19 @@
 //! Replays a recorded trace (docs/trace.md): reads the file that its argument names, piece by piece, and prints a line for each record.
+//! Its buffers are arrays: each has a greatest length, and a Vec could run out of memory.
 #![tactic(auto)]
 
 mod error;
 mod line;
 
-ghost use Rattle.std.specs.Prelude.{◌≡◌, ◌+◌, ◌≤◌, length};
+ghost use Rattle.std.specs.Prelude.{◌≡◌, ◌+◌, ◌≤◌};
 
-use line::{MOST_LINES, MOST_NUMBERS};
+use error::Failure;
 use replay_record::{FILE_BYTES, Replay};
-use replay_run::Ending;
-use std::alloc::AllocGlobal;
+use replay_run::{Ending, LINE_NUMBERS};
 use std::env::FillError;
 use std::fs::File;
-use std::io::{Eprint, ErrorKind, Print, Read};
-use std::rt::Env;
+use std::io::{ErrorKind, Print, Read};
+use std::rt::{Env, Files};
 use std::{io, str};
 
 // The program's own name and the trace's.
@@ -28,166 +28,115 @@ const WINDOW_BYTES: usize = 131072;
 // At most this many turns are made. Each goes on in the trace by at most a window, so that every place in it is below 2^64.
 const MOST_TURNS: u64 = 140737488355327;
 
-// How far a replay is: its state; from where to where the window has bytes that are read and not replayed; whether the trace ends with them (`last`) and how many bytes of it are before them (`place`); whether the next turn reads; whether the replay is over.
+// The most lines of a run, and how many numbers they have.
+const MOST_LINES: usize = 1024;
+
+const MOST_NUMBERS: usize = MOST_LINES * LINE_NUMBERS;
+
+// What the next turn does: a read, or a run over what is read; or the replay is over.
 #[derive(Clone, Copy)]
-struct Progress {
-    state: Replay,
+enum Next {
+    Read,
+    Run,
+    Over,
+}
+
+// The part of the trace that is held: from `start` to `end` it has bytes that are read and not replayed. The trace ends with them where `last` says so, and has `place` bytes before them.
+#[derive(Drop)]
+struct Window {
+    held: [u8; WINDOW_BYTES],
     start: usize,
     end: usize,
     last: bool,
     place: u64,
-    reads: bool,
-    over: bool,
+    ghost filled: { start ≤ end },
+    ghost fits: { end ≤ 131072 },
 }
 
-// Moves the bytes from `start` to `end` to the front of a window; the answer is how many they are.
-fn move_to_front(window: &mut [u8], start: usize, end: usize) -> usize
-    requires { (start ≤ end) × (end ≤ length window.old) }
-    ensures { result ≤ end }
-{
-    let count = end - start;
-    for i in 0..count {
-        window[i] = window[start + i];
-    }
-    count
-}
-
-// Prints the lines of a run, and that of a stop where it ended so; the answer is whether the replay is over.
-fn print_run(
-    rt: &(impl Print + Eprint + AllocGlobal),
-    list: &[u64; MOST_NUMBERS],
-    lines: usize,
-    ending: Ending,
-    place: u64,
-) -> bool
-    requires { lines ≤ 1024 }
-{
-    if !line::print_lines(rt, list, lines) {
-        return true;
-    }
-    match ending {
-        Ending::Later => false,
-        Ending::Complete => true,
-        Ending::Stopped => {
-            line::print_stop(rt, place);
-            true
-        }
-    }
-}
-
-impl Progress {
+impl Window {
     // Nothing is read yet.
-    fn new() -> Progress
-        ensures { (result.start ≤ result.end) × (result.end ≤ 131072) × (result.place ≡ 0) }
+    fn new() -> Window
+        ensures { result.place ≡ 0 }
     {
-        Progress {
-            state: Replay::new(),
+        Window {
+            held: [0; WINDOW_BYTES],
             start: 0,
             end: 0,
             last: false,
             place: 0,
-            reads: true,
-            over: false,
         }
     }
 
     // Reads once, behind the bytes that are not replayed, which go to the front. A read that a signal interrupts is made again by the next turn.
-    fn read(
-        mut self,
-        rt: &(impl Eprint + AllocGlobal),
-        file: &mut impl Read,
-        name: &str,
-        window: &mut [u8],
-    ) -> Progress
-        requires { (self.start ≤ self.end) × (self.end ≤ 131072) × (length window.old ≡ 131072) }
-        ensures { (result.start ≤ result.end) × (result.end ≤ 131072) × (result.place ≤ self.place) }
+    fn read(&mut self, file: &mut impl Read) -> Result<Next, Failure>
+        ensures { self.new.place ≡ self.old.place }
     {
-        let filled = move_to_front(window, self.start, self.end);
+        self.held.copy_within(self.start..self.end, 0);
+        self.end -= self.start;
         self.start = 0;
-        self.end = filled;
         // A run that neither ends with the trace nor takes a record of a full window has counted 2^64 - 1 records.
-        if self.last || filled == WINDOW_BYTES {
-            error::too_long(rt, name);
-            self.over = true;
-            return self;
+        if self.last || self.end == WINDOW_BYTES {
+            return Err(Failure::TooLong);
         }
-        match file.read(&mut window[filled..]) {
+        match file.read(&mut self.held[self.end..]) {
             Ok(got) => {
                 self.last = got == 0;
                 self.end += got;
-                self.reads = false;
+                Ok(Next::Run)
             }
-            Err(e) => {
-                if e.kind() != ErrorKind::Interrupted {
-                    error::fail(rt, name, e);
-                    self.over = true;
-                }
-            }
+            Err(e) if e.kind() == ErrorKind::Interrupted => Ok(Next::Read),
+            Err(e) => Err(Failure::Trace(e)),
         }
-        self
-    }
-
-    // Replays what is read and prints its lines. Where they fill the list, whole records may be left; else the next turn reads.
-    fn run(
-        mut self,
-        rt: &(impl Print + Eprint + AllocGlobal),
-        window: &[u8],
-        bytes: &mut [u8; FILE_BYTES],
-        list: &mut [u64; MOST_NUMBERS],
-    ) -> Progress
-        requires { (self.start ≤ self.end) × (self.end ≤ 131072) × (self.place + 131072 ≤ 18446744073709551615) × (length window.now ≡ 131072) }
-        ensures { (result.start ≤ result.end) × (result.end ≤ 131072) × (result.place ≤ self.place + 131072) }
-    {
-        let start = self.start;
-        let end = self.end;
-        let r = replay_run::run(self.state, &window[start..end], self.last, bytes, list);
-        let at = r.at;
-        let place = self.place + at as u64;
-        let state = r.state;
-        let ending = r.ending;
-        self.state = state;
-        self.start = start + at;
-        self.place = place;
-        self.reads = r.lines < MOST_LINES;
-        self.over = print_run(rt, list, r.lines, ending, place);
-        self
-    }
-
-    // One turn: a read, or a run over what is read.
-    fn turn(
-        self,
-        rt: &(impl Print + Eprint + AllocGlobal),
-        file: &mut impl Read,
-        name: &str,
-        window: &mut [u8],
-        bytes: &mut [u8; FILE_BYTES],
-        list: &mut [u64; MOST_NUMBERS],
-    ) -> Progress
-        requires { (self.start ≤ self.end) × (self.end ≤ 131072) × (self.place + 131072 ≤ 18446744073709551615) × (length window.old ≡ 131072) }
-        ensures { (result.start ≤ result.end) × (result.end ≤ 131072) × (result.place ≤ self.place + 131072) }
-    {
-        if self.reads {
-            return self.read(rt, file, name, window);
-        }
-        self.run(rt, window, bytes, list)
     }
 }
 
-// Replays the trace in an open file, turn by turn.
-fn replay_file(rt: &(impl Print + Eprint + AllocGlobal), file: &mut impl Read, name: &str) {
-    let mut window = [0u8; WINDOW_BYTES];
-    let mut bytes = [0u8; FILE_BYTES];
-    let mut list = [0u64; MOST_NUMBERS];
-    let mut progress = Progress::new();
-    let mut left = MOST_TURNS;
-    while 0 < left {
-        progress = progress.turn(rt, file, name, &mut window, &mut bytes, &mut list);
-        if progress.over {
-            return;
+// Replays what is read and prints its lines, and that of a stop. Where the lines fill the list, whole records may be left; else the next turn reads.
+fn run(
+    rt: &impl Print,
+    window: &mut Window,
+    state: &mut Replay,
+    bytes: &mut [u8; FILE_BYTES],
+    list: &mut [u64; MOST_NUMBERS],
+) -> Result<Next, Failure>
+    requires { window.old.place + 131072 ≤ 18446744073709551615 }
+    ensures { window.new.place ≤ window.old.place + 131072 }
+{
+    let unread = &window.held[window.start..window.end];
+    let r = replay_run::run(*state, unread, window.last, bytes, list);
+    *state = r.state;
+    window.start += r.at;
+    window.place += r.at as u64;
+    line::print_lines(rt, &list[..LINE_NUMBERS * r.lines]).map_err(Failure::Output)?;
+    match r.ending {
+        Ending::Later if r.lines < MOST_LINES => Ok(Next::Read),
+        Ending::Later => Ok(Next::Run),
+        Ending::Complete => Ok(Next::Over),
+        Ending::Stopped => {
+            line::print_stop(rt, window.place).map_err(Failure::Output)?;
+            Ok(Next::Over)
         }
-        left -= 1;
     }
-    error::too_long(rt, name);
+}
+
+// Replays the trace in the file of this name, turn by turn.
+fn replay_file(rt: &(impl Print + Files), name: &str) -> Result<(), Failure> {
+    let mut file = File::open(rt, name).map_err(Failure::Trace)?;
+    let mut window = Window::new();
+    let mut state = Replay::new();
+    let mut bytes = [0; FILE_BYTES];
+    let mut list = [0; MOST_NUMBERS];
+    let mut next = Next::Read;
+    for _ in 0..MOST_TURNS {
+        next = match next {
+            Next::Read => window.read(&mut file)?,
+            Next::Run => run(rt, &mut window, &mut state, &mut bytes, &mut list)?,
+            Next::Over => break,
+        };
+    }
+    match next {
+        Next::Over => Ok(()),
+        _ => Err(Failure::TooLong),
+    }
 }
 
 // Whether argument `i` is there. Nothing of it is copied.
@@ -213,8 +162,7 @@ fn main(rt: HostRuntime) {
         error::fail(&rt, "the trace's name", io::Error::other("it is not UTF-8"));
         return;
     };
-    match File::open(&rt, name) {
-        Ok(mut file) => replay_file(&rt, &mut file, name),
-        Err(e) => error::fail(&rt, name, e),
+    if let Err(failure) = replay_file(&rt, name) {
+        failure.say(&rt, name);
     }
 }

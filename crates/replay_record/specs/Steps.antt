@@ -1,6 +1,6 @@
 -- Must be believed. Document 02, order 2: what one record gives: which call is made, on the handle and the file that are held, with which arguments; the line; the state after it.
 -- What a call answers and leaves is what its contract says (file/specs/Parts.antt), of which `claim_calls` claims the properties.
-use Rattle.std.specs.Prelude.{ℕ, ◌+◌, Bool, true, false, cond, List, ◌≡◌, eqb, leb, length, replicate}
+use Rattle.std.specs.Prelude.{ℕ, ◌+◌, Bool, cond, List, ◌≡◌, eqb, leb, length, replicate, Option, Some, None}
 use Rattle.laws.specs.Checks.{also}
 use Rattle.laws.specs.Lists.{nth}
 use Rattle.laws.specs.Search.{all}
@@ -39,27 +39,27 @@ stands_at bytes place range = also (leb (place + length range) (length bytes)) (
 
 -- a good record's answer, 0 if granted, its count, and the handle and the file record after it
 abbrev pub answered : ℕ → ℕ → Handle → FileRecord → Answer
-answered answer count h f = record { good = true; answer = answer; count = count; handle = h; file = f }
+answered answer count h f = record { answer = answer; count = count; handle = h; file = f }
 
--- "One handle .. is replaced at each open"; "A check answers 0 if its bytes stand there in the file, else 25"
-unfoldable pub called : Replay → List ℕ → Recorded → Answer
+-- "One handle .. is replaced at each open"; "A check answers 0 if its bytes stand there in the file, else 25". What is no record makes no call
+unfoldable pub called : Replay → List ℕ → Recorded → Option Answer
 called s bytes (Opens mode) =
     let opened = open_answer mode in
-    answered opened.refusal opened.count opened.handle s.file
+    Some (answered opened.refusal opened.count opened.handle s.file)
 called s bytes (Sets v representation) =
     let a = set_view_answer s.handle representation v in
-    answered a.refusal a.count a.handle s.file
+    Some (answered a.refusal a.count a.handle s.file)
 called s bytes (Seeks o whence) =
     let a = seek_answer s.handle (length bytes) s.file o whence in
-    answered a.refusal a.count a.handle a.file
+    Some (answered a.refusal a.count a.handle a.file)
 called s bytes (Reads begin c) =
     let a = answer_as s.handle begin (read_at_answer s.handle (length bytes) s.file (begins_at s.handle begin) c file_length) in
-    answered a.refusal a.count a.handle a.file
+    Some (answered a.refusal a.count a.handle a.file)
 called s bytes (Writes begin c buffer) =
     let a = answer_as s.handle begin (write_at_answer s.handle (length bytes) s.file (begins_at s.handle begin) c (length buffer)) in
-    answered a.refusal a.count a.handle a.file
-called s bytes (Checks place range) = answered (cond (stands_at bytes place range) 0 25) 0 s.handle s.file
-called s bytes Bad = record { good = false; answer = 0; count = 0; handle = s.handle; file = s.file }
+    Some (answered a.refusal a.count a.handle a.file)
+called s bytes (Checks place range) = Some (answered (cond (stands_at bytes place range) 0 25) 0 s.handle s.file)
+called s bytes Bad = None
 
 -- the file's bytes after it: a write's alone can differ
 unfoldable pub bytes_after : Replay → List ℕ → Recorded → List ℕ
@@ -79,14 +79,12 @@ line_of s a = record { number = s.number + 1; answer = a.answer; count = a.count
 unfoldable pub next_of : Replay → Answer → Replay
 next_of s a = record { handle = a.handle; file = a.file; number = s.number + 1 }
 
--- one record: whether it is good, its line, and the state after it; one that is not good has a line of zeros and leaves the state
-unfoldable pub stepped : Replay → Answer → Step
-stepped s a =
-    cond a.good
-    (record { good = true; line = line_of s a; next = next_of s a })
-    (record { good = false; line = record { number = 0; answer = 0; count = 0; pointer = 0; size = 0 }; next = s })
+-- one record: its line, and the state after it, if it is good; one that is not has neither
+unfoldable pub stepped : Replay → Option Answer → Option Step
+stepped s (Some a) = Some (record { line = line_of s a; next = next_of s a })
+stepped s None = None
 
 -- a record was replayed: what the step is, and the file's bytes after it
-pub record Replayed (s : Replay) (before after : List ℕ) (r : Recorded) (t : Step) : Type 0 where
+pub record Replayed (s : Replay) (before after : List ℕ) (r : Recorded) (t : Option Step) : Type 0 where
   pub step : t ≡ stepped s (called s before r)
   pub bytes : after ≡ bytes_after s before r

@@ -1,5 +1,6 @@
 -- A trace has a replay from any state and place on, and only one.
-use Rattle.laws.proofs.Prelude.{ℕ, zero, suc, ◌+◌, ◌≤◌, ◌≡◌, refl, sym, ◌∙◌, Bool, true, false, cond, List, ◌++◌, arith, length}
+use Rattle.laws.proofs.Prelude.{ℕ, zero, suc, ◌+◌, ◌≤◌, ◌≡◌, refl, sym, ◌∙◌, List, ◌++◌, arith, length}
+use Rattle.std.proofs.Common.{Option, Some, None}
 use mathlib.Core.List.{[]}
 use Rattle.tagged_fields.specs.declared.Field.{Field}
 use Rattle.tagged_fields.specs.declared.Field.TheVariants.{Whole, Cut, End}
@@ -10,7 +11,7 @@ use Rattle.replay_record.specs.declared.Replay.{Replay}
 use Rattle.replay_record.specs.declared.Step.{Step}
 use Rattle.replay_record.specs.Records.{Recorded}
 use Rattle.replay_record.specs.Steps.{called, bytes_after, stepped}
-use Rattle.replay_run.specs.Traces.{numbers_of, Stop, At, Next, Over, Goes, record_next, field_next, next_at, Replays, over, goes}
+use Rattle.replay_run.specs.Traces.{numbers_of, Stop, Next, Over, Goes, step_next, record_next, field_next, next_at, Replays, over, goes}
 
 -- ---- one replay only
 
@@ -41,12 +42,12 @@ replays_only (goes {s' = s1} {bytes' = b1} {at' = a1} {l = l1} {numbers = n1} p 
 -- a good record ends within the trace, past its header
 module _ (trace : List ℕ) (s : Replay) (bytes : List ℕ) (at : ℕ) where
   record_past : (end : ℕ) (r : Recorded) {l : Line} {s' : Replay} {b : List ℕ} {n : ℕ} → record_next s bytes at end r ≡ Goes l s' b n → end ≡ n
-  unfolding record_next
-  record_past end r {l} {s'} {b} {n} e = told (stepped s (called s bytes r)) (stepped s (called s bytes r)).good refl e
+  unfolding record_next step_next
+  record_past end r {l} {s'} {b} {n} e = told (stepped s (called s bytes r)) e
     where
-      told : (t : Step) (good : Bool) → t.good ≡ good → cond t.good (Goes t.line t.next (bytes_after s bytes r) end) (Over (At at)) ≡ Goes l s' b n → end ≡ n
-      told t true h q = let p : Goes t.line t.next (bytes_after s bytes r) end ≡ Goes l s' b n = simp h at q in cc
-      told t false h q = never (simp h at q)
+      told : (t : Option Step) → step_next (bytes_after s bytes r) at end t ≡ Goes l s' b n → end ≡ n
+      told (Some t) q = cc
+      told None q = never q
 
   field_past : (f : Field) → FieldIs trace at f → {l : Line} {s' : Replay} {b : List ℕ} {n : ℕ} → field_next trace s bytes at f ≡ Goes l s' b n → (at + 3 ≤ n) × (n ≤ length trace)
   unfolding field_next

@@ -1,12 +1,11 @@
 -- Need not be believed. What a run over a window answers and leaves: `Replays` and `InPieces` have what it means.
-use Rattle.std.specs.Prelude.{ℕ, zero, suc, ◌+◌, ◌*◌, ◌/◌, ◌%◌, ◌≤◌, Bool, true, false, cond, List, ◌≡◌, eqb, length, take, drop}
+use Rattle.std.specs.Prelude.{ℕ, zero, suc, ◌+◌, ◌*◌, ◌/◌, ◌%◌, ◌≤◌, Bool, cond, List, [], ◌≡◌, eqb, length, take, drop, Option, Some, None, Result, Ok, Err, is_ok}
 use Rattle.laws.specs.Lists.{nth}
 use Rattle.laws.specs.Parts.{front}
 use Rattle.laws.specs.Search.{least_false}
 use Rattle.tagged_fields.specs.declared.Field.{Field}
 use Rattle.tagged_fields.specs.declared.Field.TheVariants.{Whole, Cut, End}
 use Rattle.tagged_fields.specs.Fields.{field_at}
-use Rattle.replay_record.specs.declared.Line.{Line}
 use Rattle.replay_record.specs.declared.Replay.{Replay}
 use Rattle.replay_record.specs.declared.Step.{Step}
 use Rattle.replay_record.specs.Records.{record_in}
@@ -19,19 +18,16 @@ use Rattle.replay_run.specs.Traces.{numbers_of}
 
 -- ---- one turn
 
--- no record is replayed: the run ends here
-unfoldable pub no_turn : Ending → Replay → ℕ → Turn
-no_turn e s at = record { replayed = false; ending = e; line = record { number = 0; answer = 0; count = 0; pointer = 0; size = 0 }; next = s; at = at }
-
 -- a step of a whole record, with the place after it
-unfoldable pub step_turn : Replay → ℕ → ℕ → Step → Turn
-step_turn s at end t = cond t.good (record { replayed = true; ending = Later; line = t.line; next = t.next; at = end }) (no_turn Stopped s at)
+unfoldable pub step_turn : ℕ → Option Step → Result Turn Ending
+step_turn end (Some t) = Ok (record { line = t.line; next = t.next; at = end })
+step_turn end None = Err Stopped
 
 -- by what stands at a place of the window. A window that does not end the trace is no end and cuts nothing short
-unfoldable pub field_turn : Bool → List ℕ → Replay → List ℕ → ℕ → Field → Turn
-field_turn last window s bytes at End = no_turn (cond last Complete Later) s at
-field_turn last window s bytes at Cut = no_turn (cond last Stopped Later) s at
-field_turn last window s bytes at (Whole tag start n) = step_turn s at (start + n) (stepped s (called s bytes (record_in tag (take n (drop start window)))))
+unfoldable pub field_turn : Bool → List ℕ → Replay → List ℕ → Field → Result Turn Ending
+field_turn last window s bytes End = Err (cond last Complete Later)
+field_turn last window s bytes Cut = Err (cond last Stopped Later)
+field_turn last window s bytes (Whole tag start n) = step_turn (start + n) (stepped s (called s bytes (record_in tag (take n (drop start window)))))
 
 unfoldable pub field_bytes : List ℕ → Replay → List ℕ → Field → List ℕ
 field_bytes window s bytes End = bytes
@@ -39,13 +35,13 @@ field_bytes window s bytes Cut = bytes
 field_bytes window s bytes (Whole tag start n) = bytes_after s bytes (record_in tag (take n (drop start window)))
 
 -- no record is replayed after number 2^64 - 1
-unfoldable pub turn_of : Bool → List ℕ → Replay → List ℕ → ℕ → Turn
-turn_of last window s bytes at = cond (eqb s.number 18446744073709551615) (no_turn Later s at) (field_turn last window s bytes at (field_at window at))
+unfoldable pub turn_of : Bool → List ℕ → Replay → List ℕ → ℕ → Result Turn Ending
+turn_of last window s bytes at = cond (eqb s.number 18446744073709551615) (Err Later) (field_turn last window s bytes (field_at window at))
 
 unfoldable pub turn_bytes : List ℕ → Replay → List ℕ → ℕ → List ℕ
 turn_bytes window s bytes at = cond (eqb s.number 18446744073709551615) bytes (field_bytes window s bytes (field_at window at))
 
-pub record TurnMade (last : Bool) (window : List ℕ) (s : Replay) (before after : List ℕ) (at : ℕ) (t : Turn) : Type 0 where
+pub record TurnMade (last : Bool) (window : List ℕ) (s : Replay) (before after : List ℕ) (at : ℕ) (t : Result Turn Ending) : Type 0 where
   pub turn : t ≡ turn_of last window s before at
   pub bytes : after ≡ turn_bytes window s before at
 
@@ -60,11 +56,16 @@ pub record Position : Type 0 where
 abbrev pub position : Replay → List ℕ → ℕ → Position
 position s bytes at = record { state = s; bytes = bytes; at = at }
 
-unfoldable pub turn_from : Bool → List ℕ → Position → Turn
+unfoldable pub turn_from : Bool → List ℕ → Position → Result Turn Ending
 turn_from last window p = turn_of last window p.state p.bytes p.at
 
+-- where a turn leads, with the file's bytes after it; one that ends the run leads nowhere
+unfoldable pub led : Position → List ℕ → Result Turn Ending → Position
+led p after (Ok t) = position t.next after t.at
+led p after (Err e) = p
+
 unfoldable pub after_turn : Bool → List ℕ → Position → Position
-after_turn last window p = position (turn_from last window p).next (turn_bytes window p.state p.bytes p.at) (turn_from last window p).at
+after_turn last window p = led p (turn_bytes window p.state p.bytes p.at) (turn_from last window p)
 
 -- where i turns lead
 unfoldable pub reached : Bool → List ℕ → Position → ℕ → Position
@@ -73,21 +74,31 @@ reached last window p (suc i) = after_turn last window (reached last window p i)
 
 -- turn i replays a record
 unfoldable pub turn_goes : Bool → List ℕ → Position → ℕ → Bool
-turn_goes last window p i = (turn_from last window (reached last window p i)).replayed
+turn_goes last window p i = is_ok (turn_from last window (reached last window p i))
 
 -- how many turns do, at most as many as there is room for
 unfoldable pub turns_made : Bool → List ℕ → Position → ℕ → ℕ
 turns_made last window p room = least_false (turn_goes last window p) room
 
-unfoldable pub line_at : Bool → List ℕ → Position → ℕ → Line
-line_at last window p i = (turn_from last window (reached last window p i)).line
+-- the numbers of its line
+unfoldable pub turn_numbers : Result Turn Ending → List ℕ
+turn_numbers (Ok t) = numbers_of t.line
+turn_numbers (Err e) = []
+
+unfoldable pub line_at : Bool → List ℕ → Position → ℕ → List ℕ
+line_at last window p i = turn_numbers (turn_from last window (reached last window p i))
 
 -- number k of all the lines, five to a line
 unfoldable pub number_in : Bool → List ℕ → Position → ℕ → ℕ
-number_in last window p k = nth (numbers_of (line_at last window p (k / 5))) (k % 5)
+number_in last window p k = nth (line_at last window p (k / 5)) (k % 5)
+
+-- how the run ends: as the turn says that replays no record, or later where there is no room for a line
+unfoldable pub turn_ending : Result Turn Ending → Ending
+turn_ending (Ok t) = Later
+turn_ending (Err e) = e
 
 unfoldable pub ending_after : Bool → List ℕ → Position → ℕ → ℕ → Ending
-ending_after last window p room n = cond (eqb n room) Later (turn_from last window (reached last window p n)).ending
+ending_after last window p room n = cond (eqb n room) Later (turn_ending (turn_from last window (reached last window p n)))
 
 unfoldable pub run_of : Bool → List ℕ → Position → ℕ → RunAnswer
 run_of last window p room =

@@ -1,10 +1,11 @@
 -- Must be believed. Document 02, order 2: a whole trace, record after record: the numbers of its lines and its stop.
-use Rattle.std.specs.Prelude.{ℕ, ◌+◌, cond, List, [], ◌∷◌, ◌++◌, ◌≡◌, take, drop}
+use Rattle.std.specs.Prelude.{ℕ, ◌+◌, List, [], ◌∷◌, ◌++◌, ◌≡◌, Option, Some, None, take, drop}
 use Rattle.tagged_fields.specs.declared.Field.{Field}
 use Rattle.tagged_fields.specs.declared.Field.TheVariants.{Whole, Cut, End}
 use Rattle.tagged_fields.specs.Fields.{field_at}
 use Rattle.replay_record.specs.declared.Line.{Line}
 use Rattle.replay_record.specs.declared.Replay.{Replay}
+use Rattle.replay_record.specs.declared.Step.{Step}
 use Rattle.replay_record.specs.Records.{Recorded, record_in}
 use Rattle.replay_record.specs.Steps.{called, bytes_after, stepped}
 
@@ -22,11 +23,13 @@ pub data Next : Type 0 where
   Over : Stop → Next
   Goes : Line → Replay → List ℕ → ℕ → Next
 
--- a whole record at a place, with the place after it
+-- a whole record at a place, with the place after it, by its step and the file's bytes after it
+unfoldable pub step_next : List ℕ → ℕ → ℕ → Option Step → Next
+step_next after at end (Some t) = Goes t.line t.next after end
+step_next after at end None = Over (At at)
+
 unfoldable pub record_next : Replay → List ℕ → ℕ → ℕ → Recorded → Next
-record_next s bytes at end r =
-    let t = stepped s (called s bytes r) in
-    cond t.good (Goes t.line t.next (bytes_after s bytes r) end) (Over (At at))
+record_next s bytes at end r = step_next (bytes_after s bytes r) at end (stepped s (called s bytes r))
 
 -- "A record cut short, of unknown tag or with a bad body ends it with a line of `stop` and the record's byte place"
 unfoldable pub field_next : List ℕ → Replay → List ℕ → ℕ → Field → Next

@@ -5,7 +5,7 @@ ghost use Rattle.std.specs.Prelude.{cond, ◌≡◌, ◌+◌, ◌≤◌, length}
 ghost use Rattle.laws.specs.Lists.{nth};
 ghost use Rattle.laws.specs.Parts.{store};
 ghost use Rattle.replay_run.specs.Traces.{numbers_of};
-ghost use Rattle.replay_run.specs.Parts.{no_turn, position, TurnMade, RunMade};
+ghost use Rattle.replay_run.specs.Parts.{position, TurnMade, RunMade};
 
 use replay_record::{Line, Replay};
 use tagged_fields::Field;
@@ -27,11 +27,9 @@ pub struct RunAnswer {
     pub state: Replay,
 }
 
-// What one turn does: it replays a record, or the run ends.
+// What one turn gives that replays a record: its line, and the state and the place after it.
 #[derive(Clone, Copy)]
 struct Turn {
-    replayed: bool,
-    ending: Ending,
     line: Line,
     next: Replay,
     at: usize,
@@ -41,63 +39,42 @@ struct Turn {
 pub const LINE_NUMBERS: usize = 5;
 
 // The last number that a record can have.
-const LAST_NUMBER: u64 = 18446744073709551615;
-
-// No record is replayed.
-fn no_turn(ending: Ending, state: Replay, at: usize) -> Turn
-    ensures { result ≡ no_turn ending state at }
-{
-    Turn {
-        replayed: false,
-        ending: ending,
-        line: Line {
-            number: 0,
-            answer: 0,
-            count: 0,
-            pointer: 0,
-            size: 0,
-        },
-        next: state,
-        at: at,
-    }
-}
+const LAST_NUMBER: u64 = u64::MAX;
 
 // How the run ends where no whole record stands: only the end of the trace is an end.
 fn ended(last: bool, then: Ending) -> Ending
     ensures { result ≡ cond last then Ending.Later }
 {
-    if last {
-        return then;
-    }
-    Ending::Later
+    if last { then } else { Ending::Later }
 }
 
 // Replays the record at a place of the window, or says how the run ends there.
-fn make_turn(state: Replay, window: &[u8], at: usize, last: bool, bytes: &mut [u8]) -> Turn
+#[tactic(auto, using(crate::proofs::Turning::record_within), unfolding(crate::specs::Parts::turn_of, crate::specs::Parts::turn_bytes, crate::specs::Parts::field_turn, crate::specs::Parts::field_bytes, crate::specs::Parts::step_turn))]
+fn make_turn(
+    state: Replay,
+    window: &[u8],
+    at: usize,
+    last: bool,
+    bytes: &mut [u8],
+) -> Result<Turn, Ending>
     ensures { TurnMade last window.now state bytes.old bytes.new at result }
 {
     if state.number == LAST_NUMBER {
-        return no_turn(Ending::Later, state, at);
+        return Err(Ending::Later);
     }
-    let field = tagged_fields::field_at(window, at);
-    match field {
-        Field::End => no_turn(ended(last, Ending::Complete), state, at),
-        Field::Cut => no_turn(ended(last, Ending::Stopped), state, at),
+    match tagged_fields::field_at(window, at) {
+        Field::End => Err(ended(last, Ending::Complete)),
+        Field::Cut => Err(ended(last, Ending::Stopped)),
         Field::Whole { tag, start, length } => {
             let end = start + length;
-            let step = state.step(tag, &window[start..end], bytes);
-            if !step.good {
-                return no_turn(Ending::Stopped, state, at);
-            }
-            let line = step.line;
-            let next = step.next;
-            Turn {
-                replayed: true,
-                ending: Ending::Later,
-                line: line,
-                next: next,
+            let Some(step) = state.step(tag, &window[start..end], bytes) else {
+                return Err(Ending::Stopped);
+            };
+            Ok(Turn {
+                line: step.line,
+                next: step.next,
                 at: end,
-            }
+            })
         }
     }
 }
@@ -107,15 +84,18 @@ fn put_line(list: &mut [u64], at: usize, line: Line)
     requires { at + 5 ≤ length list.old }
     ensures { list.new ≡ store (λ k. at + k) (nth (numbers_of line)) 5 list.old }
 {
-    list[at] = line.number;
-    list[at + 1] = line.answer;
-    list[at + 2] = line.count;
-    list[at + 3] = line.pointer;
-    list[at + 4] = line.size;
+    list[at..at + LINE_NUMBERS].copy_from_slice(&[
+        line.number,
+        line.answer,
+        line.count,
+        line.pointer,
+        line.size,
+    ]);
 }
 
 // Replays the records of a window in order and puts the numbers of their lines at the front of the list. `last` says that the window ends the trace.
 // The run ends where the list has no room for a line, where the window has no whole record left, or at a record that ends the replay.
+// Numbers and no Lines, with a count beside: `InPieces` takes the first 5·lines of the list.
 pub fn run(
     state: Replay,
     window: &[u8],
@@ -128,27 +108,27 @@ pub fn run(
     let room = list.len() / LINE_NUMBERS;
     let mut current = state;
     let mut at = 0;
-    let mut lines = 0;
-    while lines < room {
-        let made = make_turn(current, window, at, last, bytes);
-        if !made.replayed {
-            let ending = made.ending;
-            return RunAnswer {
-                ending: ending,
-                at: at,
-                lines: lines,
-                state: current,
-            };
+    for lines in 0..room {
+        match make_turn(current, window, at, last, bytes) {
+            Ok(turn) => {
+                put_line(list, LINE_NUMBERS * lines, turn.line);
+                current = turn.next;
+                at = turn.at;
+            }
+            Err(ending) => {
+                return RunAnswer {
+                    ending,
+                    at,
+                    lines,
+                    state: current,
+                };
+            }
         }
-        put_line(list, LINE_NUMBERS * lines, made.line);
-        current = made.next;
-        at = made.at;
-        lines += 1;
     }
     RunAnswer {
         ending: Ending::Later,
-        at: at,
-        lines: lines,
+        at,
+        lines: room,
         state: current,
     }
 }

@@ -1,92 +1,55 @@
--- What the loops of this crate test at one index, and that no sum of theirs wraps.
-use Rattle.laws.proofs.Prelude.{ℕ, ◌+◌, ◌-◌, ◌≤◌, ◌<◌, ◌≡◌, sym, ap, ◌∙◌, Bool, true, false, not, List, arith, length, get_or, leb, w64, Fits, le-leb, lt-leb, le-ltb, lt-ltb, not-true, not-false, nth, all, least_false, least_false_le, Passed, passed_more, passed_stop, passed_end, passed_fails, passed_holds}
-use Rattle.view.specs.Parts.{in_order, EntriesValid}
-use Rattle.rule_limits.specs.Parts.{entry_fits}
-use Rattle.rule_entries.specs.Parts.{entry_fits_at, apart_at, apart_in, ListsReady}
-
--- ---- one entry
-
--- the call's flag for entry i is the rule's
-pub entry_true : (ws ds : List ℕ) (i : ℕ) (t : Bool) → t ≡ entry_fits (get_or ws i 0) (get_or ds i 0) → not t ≡ false → entry_fits_at ws ds i ≡ true
-unfolding entry_fits_at
-entry_true ws ds i t h n = sym h ∙ not-false t n
-
-pub entry_false : (ws ds : List ℕ) (i : ℕ) (t : Bool) → t ≡ entry_fits (get_or ws i 0) (get_or ds i 0) → not t ≡ true → entry_fits_at ws ds i ≡ false
-unfolding entry_fits_at
-entry_false ws ds i t h n = sym h ∙ not-true t n
+-- What the searches of this crate find: the first entry out of order, and entries that end before the next ones begin.
+use Rattle.laws.proofs.Prelude.{ℕ, ◌+◌, ◌-◌, ◌≤◌, ◌<◌, ◌≡◌, sym, ap, ◌∙◌, ⊎_elim, eq-or-lt_of_le, Bool, true, false, List, arith, length, take, get_or, get_or-take, length-take-le, leb, max, le-leb, lt-leb, le-ltb, lt-ltb, nth, all, all_at, all_below, all_fails, all_intro, all_same, iff, least_false, least_false_breaks, least_false_is}
+use Rattle.std.proofs.Common.{Option, Some, None, MatchOption}
+use Rattle.std.specs.Option.{unwrap_or}
+use Rattle.view.specs.Parts.{in_order}
+use Rattle.rule_entries.specs.Parts.{apart_at, apart_in}
 
 -- ---- ordered
 
-pub in_order_law : (ds : List ℕ) (i : ℕ) → get_or ds i 0 ≤ get_or ds (i + 1) 0 → in_order (nth ds) i ≡ true
-in_order_law ds i h = le-leb _ _ h
+module _ (ds : List ℕ) where
+  kept : (n : ℕ) → ((k : ℕ) → 1 ≤ k → k < n + 1 → get_or ds (k - 1) 0 ≤ get_or ds k 0) → (k : ℕ) → k < n → in_order (nth ds) k ≡ true
+  kept n h k l = let q : k + 1 - 1 ≡ k = omega arith in le-leb _ _ (rw q at (h (k + 1) (omega arith) (omega arith)))
 
-pub out_of_order : (ds : List ℕ) (i : ℕ) → get_or ds (i + 1) 0 < get_or ds i 0 → in_order (nth ds) i ≡ false
-out_of_order ds i h = lt-leb _ _ h
+  -- what a search for the first entry below the one before it found
+  pub first_below : (r : Option ℕ) → MatchOption r ((k : ℕ) → 1 ≤ k → k < length ds → get_or ds (k - 1) 0 ≤ get_or ds k 0) (λ i. (1 ≤ i) × (i < length ds) × (get_or ds i 0 < get_or ds (i - 1) 0) × ((k : ℕ) → 1 ≤ k → k < i → get_or ds (k - 1) 0 ≤ get_or ds k 0)) → unwrap_or r (max (length ds) 1) ≡ least_false (in_order (nth ds)) (length ds - 1) + 1
+  first_below None h =
+      let e = least_false_is (in_order (nth ds)) (length ds - 1) (length ds - 1) (omega arith) (kept (length ds - 1) (λ k a b. h k a (omega arith))) (λ l. absurd (omega arith)) in
+      omega arith
+  first_below (Some i) h =
+      let q : i - 1 + 1 ≡ i = omega (arith, h.0) in
+      let e = least_false_is (in_order (nth ds)) (length ds - 1) (i - 1) (omega (arith, h.1)) (kept (i - 1) (λ k a b. h.3 k a (omega arith))) (λ l. lt-leb _ _ (rw q h.2)) in
+      omega arith
 
-pub below_none : (ds : List ℕ) → length ds ≡ 0 → 1 ≡ least_false (in_order (nth ds)) (length ds - 1) + 1
-below_none ds h = let q : length ds - 1 ≡ 0 = omega arith in omega (arith, least_false_le (in_order (nth ds)) (length ds - 1))
+-- ---- entries apart: of the front of two lists, and of a filetype with the next tile
 
-pub below_found : (ds : List ℕ) (i : ℕ) → Passed (in_order (nth ds)) i (length ds - 1) → i < length ds - 1 → in_order (nth ds) i ≡ false → i + 1 ≡ least_false (in_order (nth ds)) (length ds - 1) + 1
-below_found ds i s l h = ap (λ (z : ℕ). z + 1) (passed_stop (in_order (nth ds)) i (length ds - 1) s l h)
-
-pub below_end : (ds : List ℕ) (i : ℕ) → Passed (in_order (nth ds)) i (length ds - 1) → length ds - 1 ≤ i → (length ds ≡ 0 → ⊥) → length ds ≡ least_false (in_order (nth ds)) (length ds - 1) + 1
-below_end ds i s l h = omega (arith, passed_end (in_order (nth ds)) i (length ds - 1) s l, s.reached)
-
--- ---- entries apart
-
-pub apart_fits : (n : ℕ) (ws ds : List ℕ) (i : ℕ) → EntriesValid n ws ds → i < n - 1 → Fits w64 (get_or ds i 0 + get_or ws i 0)
-apart_fits n ws ds i k l = record { fits = omega (arith, k.ends i (omega arith)) }
-
-pub apart_true : (ws ds : List ℕ) (i : ℕ) → get_or ds i 0 + get_or ws i 0 ≤ get_or ds (i + 1) 0 → apart_at ws ds i ≡ true
+pub front_apart : (ws ds : List ℕ) (n : ℕ) (t : Bool) → t ≡ all (apart_at (take n ws) (take n ds)) (length (take n ws) - 1) → n ≤ length ws → n ≤ length ds → t ≡ all (apart_at ws ds) (n - 1)
 unfolding apart_at
-apart_true ws ds i h = le-leb _ _ h
+front_apart ws ds n t h l m =
+    h ∙ rw (length-take-le n ws l)
+    (all_same _ _ (n - 1) (λ i b. rw (get_or-take n ws i 0 (omega arith), get_or-take n ds i 0 (omega arith), get_or-take n ds (i + 1) 0 (omega arith))))
 
-pub apart_false : (ws ds : List ℕ) (i : ℕ) → get_or ds (i + 1) 0 < get_or ds i 0 + get_or ws i 0 → apart_at ws ds i ≡ false
-unfolding apart_at
-apart_false ws ds i h = lt-leb _ _ h
+module _ (ws ds : List ℕ) (f : ℕ) (some : 0 < length ws) (t : Bool) (e : t ≡ all (apart_at ws ds) (length ws - 1)) where
+  inner : (i : ℕ) → i < length ws - 1 → apart_in ws ds f i ≡ apart_at ws ds i
+  unfolding apart_in apart_at
+  inner i l = rw (lt-ltb (i + 1) (length ws) (omega arith))
 
--- ---- the entries of a filetype, and of the next tile
+  abbrev closes : Bool
+  closes = leb (get_or ds (length ws - 1) 0 + get_or ws (length ws - 1) 0) (get_or ds 0 0 + f)
 
-module _ (ws ds : List ℕ) (f : ℕ) (k : ListsReady ws ds f) where
-  pub lists_some : 0 < length ws
-  lists_some = k.some
+  last : apart_in ws ds f (length ws - 1) ≡ closes
+  unfolding apart_in
+  last = rw (le-ltb (length ws - 1 + 1) (length ws) (omega arith))
 
-  pub end_fits : (i : ℕ) → i < length ws - 1 → Fits w64 (get_or ds i 0 + get_or ws i 0)
-  end_fits i l = record { fits = omega (arith, k.ends i (omega arith)) }
+  each : t ≡ true → closes ≡ true → (i : ℕ) → i < length ws → apart_in ws ds f i ≡ true
+  each h c i l = ⊎_elim (λ q. ap (apart_in ws ds f) q ∙ (last ∙ c)) (λ q. inner i q ∙ all_at (apart_at ws ds) (length ws - 1) (sym e ∙ h) i q) (eq-or-lt_of_le {n = i} {m = length ws - 1} (omega arith))
 
-  pub end_last : Fits w64 (get_or ds (length ws - 1) 0 + get_or ws (length ws - 1) 0)
-  end_last = record { fits = omega (arith, k.ends (length ws - 1) (omega (arith, k.some))) }
+  -- the last entry decides where the others are apart
+  pub tile_closes : t ≡ true → closes ≡ all (apart_in ws ds f) (length ws)
+  tile_closes h = iff _ _ (λ c. all_intro _ _ (each h c)) (λ a. sym last ∙ all_at _ _ a (length ws - 1) (omega arith))
 
-  pub tile_fits : Fits w64 (get_or ds 0 0 + f)
-  tile_fits = record { fits = omega (arith, k.ends 0 k.some, k.extent) }
-
-pub pair_apart : (ws ds : List ℕ) (f i : ℕ) → i < length ws - 1 → get_or ds i 0 + get_or ws i 0 ≤ get_or ds (i + 1) 0 → apart_in ws ds f i ≡ true
-unfolding apart_in
-pair_apart ws ds f i l h = rw (lt-ltb (i + 1) (length ws) (omega arith)) (le-leb _ _ h)
-
-pub pair_overlaps : (ws ds : List ℕ) (f i : ℕ) → i < length ws - 1 → get_or ds (i + 1) 0 < get_or ds i 0 + get_or ws i 0 → apart_in ws ds f i ≡ false
-unfolding apart_in
-pair_overlaps ws ds f i l h = rw (lt-ltb (i + 1) (length ws) (omega arith)) (lt-leb _ _ h)
-
-module _ (ws ds : List ℕ) (f i : ℕ) (s : Passed (apart_in ws ds f) i (length ws)) where
-  pub pair_more : i < length ws - 1 → apart_in ws ds f i ≡ true → Passed (apart_in ws ds f) (i + 1) (length ws)
-  pair_more l h = passed_more (apart_in ws ds f) i (length ws) s (omega arith) h
-
-  pub apart_fails : i < length ws - 1 → apart_in ws ds f i ≡ false → false ≡ all (apart_in ws ds f) (length ws)
-  apart_fails l h = passed_fails (apart_in ws ds f) i (length ws) s (omega arith) h
-
-  module _ (some : 0 < length ws) (l : length ws - 1 ≤ i) (h : i ≤ length ws - 1) where
-    at_last_law : i ≡ length ws - 1
-    at_last_law = omega arith
-
-    -- the last entry decides
-    last_is : leb (get_or ds (length ws - 1) 0 + get_or ws (length ws - 1) 0) (get_or ds 0 0 + f) ≡ apart_in ws ds f (length ws - 1)
-    unfolding apart_in
-    last_is = rw (le-ltb (length ws - 1 + 1) (length ws) (omega arith))
-
-    pub apart_last : leb (get_or ds (length ws - 1) 0 + get_or ws (length ws - 1) 0) (get_or ds 0 0 + f) ≡ all (apart_in ws ds f) (length ws)
-    apart_last = decided (leb (get_or ds (length ws - 1) 0 + get_or ws (length ws - 1) 0) (get_or ds 0 0 + f)) last_is
-      where
-        decided : (t : Bool) → t ≡ apart_in ws ds f (length ws - 1) → t ≡ all (apart_in ws ds f) (length ws)
-        decided true e = passed_holds (apart_in ws ds f) (i + 1) (length ws) (passed_more (apart_in ws ds f) i (length ws) s (omega arith) (rw at_last_law (sym e))) (omega arith)
-        decided false e = passed_fails (apart_in ws ds f) i (length ws) s (omega arith) (rw at_last_law (sym e))
+  pub tile_fails : t ≡ false → t ≡ all (apart_in ws ds f) (length ws)
+  tile_fails h =
+      let l = all_below _ _ (sym e ∙ h) in
+      let i = least_false (apart_at ws ds) (length ws - 1) in
+      h ∙ sym (all_fails _ _ i (omega arith) (inner i l ∙ least_false_breaks _ _ l))

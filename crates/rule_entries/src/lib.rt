@@ -1,66 +1,49 @@
 //! Tests of the single rules on a type's lists. The test of a view's record and acceptance are made of these and of the tests on a filetype's origins.
+//! By index, as the definitions' `nth`: two lists, and neighbours in one of them.
 #![tactic(auto)]
 
-ghost use Rattle.std.specs.Prelude.{◌≡◌, ◌≤◌, ◌+◌, ◌-◌, length};
+ghost use Rattle.std.specs.Prelude.{ℕ, ◌≡◌, ◌≤◌, ◌<◌, ◌+◌, ◌-◌, length};
 ghost use Rattle.laws.specs.Lists.{nth};
 ghost use Rattle.laws.specs.Search.{least_false, all};
-ghost use Rattle.view.specs.Parts.{max_etype_entries, in_order, ordered, EntriesValid};
+ghost use Rattle.view.specs.Parts.{max_etype_entries, max_entry_end, entry_end, in_order, EntriesValid};
 ghost use Rattle.rule_entries.specs.Parts.{entry_fits_at, apart_at, apart_in, ListsReady};
 
-use view::PerEntry;
+use view::View;
 
 // Whether each entry of an etype is allowed. For our own crates.
-pub fn entries_fit<'a>(entries: u64, widths: &'a PerEntry, displacements: &'a PerEntry) -> bool
-    requires { entries ≤ max_etype_entries }
-    ensures { result ≡ all (entry_fits_at widths.now displacements.now) entries }
+pub fn entries_fit(view: &View) -> bool
+    requires { view.now.numbers.etype.entries ≤ max_etype_entries }
+    ensures { result ≡ all (entry_fits_at view.now.widths view.now.displacements) view.now.numbers.etype.entries }
 {
-    let n = entries as usize;
-    let mut i = 0;
-    while i < n {
-        if !rule_limits::entry_fits(widths[i], displacements[i]) {
-            return false;
-        }
-        i += 1;
-    }
-    true
+    let n = view.numbers.etype.entries as usize;
+    (0..n).all(|i| rule_limits::entry_fits(view.widths[i], view.displacements[i]))
 }
 
 // The first entry that lies below the one before it, or a number past the last entry if there is none. For our own crates.
+// The number past the last stands for none, as `least_false` has it, on which `order_entry`, `hole_entry` and `overlap_entry` rest.
 pub fn first_out_of_order(ds: &[u64]) -> usize
     ensures { result ≡ least_false (in_order (nth ds.now)) (length ds.now - 1) + 1 }
 {
-    if ds.len() == 0 {
-        return 1;
-    }
-    let last = ds.len() - 1;
-    let mut i = 0;
-    while i < last {
-        let later = i + 1;
-        if ds[later] < ds[i] {
-            return later;
-        }
-        i += 1;
-    }
-    ds.len()
+    (1..ds.len())
+        .find(|i| ds[*i] < ds[*i - 1])
+        .unwrap_or(ds.len().max(1))
+}
+
+// Whether each entry but the last ends at or before the next one begins.
+fn ends_follow(ws: &[u64], ds: &[u64]) -> bool
+    requires { (0 < length ws.now) × (length ds.now ≡ length ws.now) × ((i : ℕ) → i < length ws.now → entry_end ws.now ds.now i ≤ max_entry_end) }
+    ensures { result ≡ all (apart_at ws.now ds.now) (length ws.now - 1) }
+{
+    (0..ws.len() - 1).all(|i| ds[i] + ws[i] <= ds[i + 1])
 }
 
 // Whether each entry of the etype ends at or before the next one begins. For our own crates.
-pub fn entries_apart<'a>(entries: u64, widths: &'a PerEntry, displacements: &'a PerEntry) -> bool
-    requires { EntriesValid entries widths.now displacements.now }
-    ensures { result ≡ all (apart_at widths.now displacements.now) (entries - 1) }
+pub fn entries_apart(view: &View) -> bool
+    requires { EntriesValid view.now.numbers.etype.entries view.now.widths view.now.displacements }
+    ensures { result ≡ all (apart_at view.now.widths view.now.displacements) (view.now.numbers.etype.entries - 1) }
 {
-    let n = entries as usize;
-    let last = n - 1;
-    let mut i = 0;
-    while i < last {
-        let end = displacements[i] + widths[i];
-        let next = i + 1;
-        if displacements[next] < end {
-            return false;
-        }
-        i += 1;
-    }
-    true
+    let n = view.numbers.etype.entries as usize;
+    ends_follow(&view.widths[..n], &view.displacements[..n])
 }
 
 // Whether each entry of a filetype ends at or before the next one begins, the last one before the first one of the next tile. For our own crates.
@@ -69,15 +52,5 @@ pub fn filetype_apart(ws: &[u64], ds: &[u64], extent: u64) -> bool
     ensures { result ≡ all (apart_in ws.now ds.now extent) (length ws.now) }
 {
     let last = ws.len() - 1;
-    let mut i = 0;
-    while i < last {
-        let end = ds[i] + ws[i];
-        let next = i + 1;
-        if ds[next] < end {
-            return false;
-        }
-        i += 1;
-    }
-    let end = ds[last] + ws[last];
-    end <= ds[0] + extent
+    ends_follow(ws, ds) && ds[last] + ws[last] <= ds[0] + extent
 }

@@ -1,14 +1,24 @@
 -- Need not be believed. What the functions of this crate make and test, part by part: the contract of `rule_set::accept` is `AcceptedAs`, and the proofs there show that the parts make it up.
-use Rattle.std.specs.Prelude.{ℕ, ◌+◌, ◌-◌, ◌*◌, ◌/◌, ◌%◌, ◌≤◌, ◌<◌, Bool, List, ◌≡◌, leb, eqb, ℤ, pos, length, get_or, replicate}
+use Rattle.std.specs.Prelude.{ℕ, ◌+◌, ◌-◌, ◌*◌, ◌/◌, ◌%◌, ◌≤◌, ◌<◌, Bool, Option, Some, None, List, ◌≡◌, leb, eqb, ℤ, pos, length, get_or, replicate}
 use Rattle.laws.specs.Checks.{also, check}
 use Rattle.laws.specs.Lists.{nth}
 use Rattle.laws.specs.Parts.{front}
 use Rattle.laws.specs.Search.{least_false, all}
 use Rattle.view.specs.declared.View.{View}
 use Rattle.view.specs.declared.Numbers.{Numbers}
-use Rattle.view.specs.Parts.{max_etype_entries, max_instances}
+use Rattle.view.specs.Parts.{max_etype_entries, max_instances, refusal_number}
 use Rattle.view.specs.Types.{whole}
 use Rattle.rule_groups.specs.declared.GroupFault.{GroupFault}
+
+-- the number of the rule that groups break, 18 or 19, and the entry that it names; 0 and 0 if they break none
+pub record GroupNumbers : Type 0 where
+  pub refusal : ℕ
+  pub entry : ℕ
+
+-- the numbers of an answer
+unfoldable pub group_numbers : Option GroupFault → GroupNumbers
+group_numbers (Some f) = record { refusal = refusal_number f.refusal; entry = f.entry }
+group_numbers None = record { refusal = 0; entry = 0 }
 
 -- displacement i of a list as a natural number
 unfoldable pub whole_at : List ℤ → ℕ → ℕ
@@ -39,10 +49,10 @@ module _ (ws ds : List ℕ) (n : ℕ) (fw fd : List ℕ) where
   deciding = least_false group_fits (length fw / n - 1)
 
   -- 18 before 19, and the entry that each names; 0 and 0 if neither applies
-  unfoldable pub first_group_fault : GroupFault
+  unfoldable pub first_group_fault : GroupNumbers
   first_group_fault = record {
-    0 = check (group_matches_at deciding) 18 (check (origin_at deciding) 19 0);
-    1 = check (group_matches_at deciding) (deciding * n + least_false (matches_at deciding) n) (check (origin_at deciding) (deciding * n) 0);
+    refusal = check (group_matches_at deciding) 18 (check (origin_at deciding) 19 0);
+    entry = check (group_matches_at deciding) (deciding * n + least_false (matches_at deciding) n) (check (origin_at deciding) (deciding * n) 0);
   }
 
 -- what this asks: whole groups, at least one, of lists of one length

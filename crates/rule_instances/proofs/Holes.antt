@@ -25,17 +25,10 @@ module _ (ps : List ℕ) (k e f : ℕ) where
   hole_end zero p l = absurd (omega arith)
   hole_end (suc i) p l = let q : k - 1 ≡ i = omega arith in rw (le-ltb (suc i) k (omega arith), q)
 
-  module _ (i shift h : ℕ) (p : 1 ≤ i) (s : shift ≡ get_or ps i 0 - get_or ps (i - 1) 0) (q : h ≡ shift - e) where
-    between : i < k → hole (nth ps) k e f i ≡ h
-    between l = hole_at i (omega arith) l ∙ sym (q ∙ ap (λ (z : ℕ). z - e) s)
-
-    pub hole_between : i < k → h % e ≡ 0 → hole_fits ps k e f i ≡ true
-    unfolding hole_fits
-    hole_between l z = rw (between l) (eq-eqb _ 0 z)
-
-    pub hole_between_no : i < k → (h % e ≡ 0 → ⊥) → hole_fits ps k e f i ≡ false
-    unfolding hole_fits
-    hole_between_no l z = rw (between l) (ne_eqb _ 0 z)
+  -- a hole between two instances fits where the gap test of their step says so
+  pub hole_between : (i step : ℕ) (t v : Bool) → 1 ≤ i → i < k → step ≡ get_or ps i 0 - get_or ps (i - 1) 0 → t ≡ eqb ((step - e) % e) 0 → t ≡ v → hole_fits ps k e f i ≡ v
+  unfolding hole_fits
+  hole_between i step t v p l s q z = ap (λ (x : ℕ). eqb (x % e) 0) (hole_at i (omega arith) l ∙ sym (ap (λ (x : ℕ). x - e) s)) ∙ (sym q ∙ z)
 
   pub hole_found : (i : ℕ) → Passed (hole_fits ps k e f) i (k + 1) → i < k → hole_fits ps k e f i ≡ false → i ≡ least_false (hole_fits ps k e f) (k + 1)
   hole_found i s l h = passed_stop (hole_fits ps k e f) i (k + 1) s (omega arith) h
@@ -49,30 +42,27 @@ module _ (ps : List ℕ) (k e f : ℕ) where
   pub holes_more : (i : ℕ) → Passed (hole_fits ps k e f) i (k + 1) → i < k → hole_fits ps k e f i ≡ true → Passed (hole_fits ps k e f) (i + 1) (k + 1)
   holes_more i s l h = passed_more (hole_fits ps k e f) i (k + 1) s (omega arith) h
 
-  -- the last hole
-  module _ (i rest h : ℕ) (s : Passed (hole_fits ps k e f) i (k + 1)) (p : 1 ≤ i) (a : i ≤ k) (b : k ≤ i) (r : rest ≡ f - get_or ps (k - 1) 0) (q : h ≡ rest - e) where
-    last_is : hole (nth ps) k e f i ≡ h
-    last_is = hole_end i (omega arith) (omega arith) ∙ sym (q ∙ ap (λ (x : ℕ). x - e) r)
-
-    pub hole_found_last : (h % e ≡ 0 → ⊥) → k ≡ least_false (hole_fits ps k e f) (k + 1)
+  -- the last hole, of which t says whether it fits
+  module _ (i rest : ℕ) (t : Bool) (s : Passed (hole_fits ps k e f) i (k + 1)) (p : 1 ≤ i) (a : i ≤ k) (b : k ≤ i) (r : rest ≡ f - get_or ps (k - 1) 0) (q : t ≡ eqb ((rest - e) % e) 0) where
+    last_is : hole_fits ps k e f i ≡ t
     unfolding hole_fits
-    hole_found_last z =
-        let c : i ≡ k = omega arith in
-        sym c ∙ passed_stop _ i (k + 1) s (omega arith) (ap (λ (x : ℕ). eqb (x % e) 0) last_is ∙ ne_eqb _ 0 z)
+    last_is = ap (λ (x : ℕ). eqb (x % e) 0) (hole_end i (omega arith) (omega arith) ∙ sym (ap (λ (x : ℕ). x - e) r)) ∙ sym q
 
-    pub holes_none : h % e ≡ 0 → k + 1 ≡ least_false (hole_fits ps k e f) (k + 1)
-    unfolding hole_fits
+    pub hole_found_last : t ≡ false → k ≡ least_false (hole_fits ps k e f) (k + 1)
+    hole_found_last z = let c : i ≡ k = omega arith in sym c ∙ passed_stop _ i (k + 1) s (omega arith) (last_is ∙ z)
+
+    pub holes_none : t ≡ true → k + 1 ≡ least_false (hole_fits ps k e f) (k + 1)
     holes_none z =
         let c : i ≡ k = omega arith in
-        let m = passed_more _ i (k + 1) s (omega arith) (ap (λ (x : ℕ). eqb (x % e) 0) last_is ∙ eq-eqb _ 0 z) in
+        let m = passed_more _ i (k + 1) s (omega arith) (last_is ∙ z) in
         ap (λ (x : ℕ). x + 1) (sym c) ∙ passed_end _ (i + 1) (k + 1) m (omega arith)
 
-    -- whether it fits decides
-    pub holes_last : eqb (h % e) 0 ≡ holes_fit (nth ps) k e f
+    -- it decides
+    pub holes_last : t ≡ holes_fit (nth ps) k e f
     unfolding holes_fit hole_fits
-    holes_last = ends (eqb (h % e) 0) (ap (λ (x : ℕ). eqb (x % e) 0) last_is)
+    holes_last = ends t last_is
       where
-        ends : (t : Bool) → eqb (hole (nth ps) k e f i % e) 0 ≡ t → t ≡ all (λ x. eqb (hole (nth ps) k e f x % e) 0) (k + 1)
+        ends : (v : Bool) → hole_fits ps k e f i ≡ v → v ≡ all (λ x. eqb (hole (nth ps) k e f x % e) 0) (k + 1)
         ends true z = passed_holds _ (i + 1) (k + 1) (passed_more _ i (k + 1) s (omega arith) z) (omega arith)
         ends false z = passed_fails _ i (k + 1) s (omega arith) z
 

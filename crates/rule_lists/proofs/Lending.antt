@@ -1,65 +1,82 @@
--- How the loops of this crate go on, and what the flags of checks 3 to 6 say of the lent lists.
-use Rattle.laws.proofs.Prelude.{ℕ, ◌^◌, ◌≤◌, ◌<◌, ◌≡◌, sym, ap, ◌∙◌, Bool, true, false, not, List, arith, length, get_or, ℤ, pos, mag, w64, SFits, to_z, of_z, hbits, to_z-of_z, sfits_of, eqb-true, eq-eqb, ne_eqb, lt-ltb, le-ltb, also, all, least_false, least_false_le, also_inv, also_yes, also_no, unflag_true, unflag_false, Passed, passed_fails, passed_holds}
+-- What the searches of this crate find, and what the flags of checks 3 to 5 say of the lent numbers.
+use Rattle.laws.proofs.Prelude.{ℕ, ◌≤◌, ◌<◌, ◌≡◌, refl, sym, ap, ◌∙◌, Bool, true, false, not, cond, ltb, eqb, List, arith, length, get_or, ℤ, pos, w64, SFits, to_z, of_z, to_z-of_z, eqb-true, eq-eqb, ne_eqb, lt-ltb, le-ltb, ltb-true, also, all, least_false, nth, least_false_le, least_false_keeps, least_false_breaks, iff, all_at, ext_get_or, also_inv, unflag_true, unflag_false}
+use Rattle.std.specs.Str.{bytes_eq}
+use Rattle.std.specs.List.{position, position_or_len, zip}
+use Rattle.std.specs.Prelude.{Some, None}
+use Rattle.std.proofs.lemmas.Slice.Eq.{bytes_eq-Decides}
+use Rattle.std.proofs.lemmas.Slice.Zip.{length-zip, get_or-zip}
+use Rattle.std.proofs.lemmas.List.Sums.{position_or_len_is}
 use Rattle.view.specs.Limits.{extent_allowed, displacement_allowed}
+use borrow.Author.Tests.{ltb-false}
 use Rattle.view.specs.declared.Named.TheVariants.{EtypeEntry, FiletypeEntry}
 use Rattle.view.specs.Types.{entries, width_at, view_of_lists}
 use Rattle.view.specs.Parts.{limits_entry, of_both, named_by}
 use Rattle.view.specs.Rules.{native_name, is_native, entry_allowed, entries_allowed}
 use Rattle.rule_limits.specs.Parts.{lengths_allowed, signed_entry_fits}
-use Rattle.rule_lists.specs.Parts.{type_of_lists, native_at, signed_entry_fits_at}
+use Rattle.rule_lists.specs.Parts.{type_of_lists}
 
 -- ---- the representation
 
-pub native_yes : (r : List ℕ) (i : ℕ) → get_or r i 0 ≡ get_or native_name i 0 → native_at r i ≡ true
-unfolding native_at
-native_yes r i h = eq-eqb _ _ h
+-- equal bytes, as the library compares two lists
+pub native_same : (r : List ℕ) (t : Bool) → t ≡ bytes_eq r native_name → t ≡ is_native r
+unfolding is_native native_name also all least_false
+native_same r t e = e ∙ iff _ _ (λ h. holds ((bytes_eq-Decides r native_name).0 h)) (λ h. (bytes_eq-Decides r native_name).1 (same h))
+  where
+    holds : r ≡ native_name → is_native r ≡ true
+    holds q = rw q
 
-pub native_no : (r : List ℕ) (i : ℕ) → (get_or r i 0 ≡ get_or native_name i 0 → ⊥) → native_at r i ≡ false
-unfolding native_at
-native_no r i h = ne_eqb _ _ h
+    same : is_native r ≡ true → r ≡ native_name
+    same h = let p = also_inv _ _ h in ext_get_or 0 r native_name (eqb-true (length r) 6 p.0) (λ i l. eqb-true _ _ (all_at (λ k. eqb (nth r k) (nth native_name k)) 6 p.1 i (omega (arith, eqb-true (length r) 6 p.0))))
 
-pub native_short : (r : List ℕ) → (length r ≡ 6 → ⊥) → false ≡ is_native r
-unfolding is_native
-native_short r h = also_no _ _ (ne_eqb _ _ h)
+-- ---- entries: the first that is not allowed, searched in both lists at once
 
-pub native_fails : (r : List ℕ) (i : ℕ) → length r ≡ 6 → Passed (native_at r) i 6 → i < 6 → native_at r i ≡ false → false ≡ is_native r
-unfolding is_native native_at
-native_fails r i e s l h = also_yes _ _ false (eq-eqb _ _ e) (passed_fails _ i 6 s l h)
+module _ (ws : List ℕ) (ds : List ℤ) (x : ℤ) (pairs : length ds ≡ length ws) where
+  abbrev breaks : ℕ × ℤ → Bool
+  breaks e = not (signed_entry_fits e.0 e.1)
 
-pub native_holds : (r : List ℕ) (i : ℕ) → length r ≡ 6 → Passed (native_at r) i 6 → 6 ≤ i → true ≡ is_native r
-unfolding is_native native_at
-native_holds r i e s l = also_yes _ _ true (eq-eqb _ _ e) (passed_holds _ i 6 s l)
+  zipped : length (zip ws ds) ≡ length ws
+  zipped = omega (arith, length-zip ws ds)
 
--- ---- entries
+  breaks_at : (i : ℕ) → i < length ws → breaks (get_or (zip ws ds) i (0, pos 0)) ≡ not (entry_allowed (type_of_lists ws ds x) i)
+  unfolding signed_entry_fits entry_allowed width_at
+  breaks_at i l = ap breaks (get_or-zip ws ds i (0, pos 0) l (omega arith))
 
-module _ (ws : List ℕ) (ds : List ℤ) (i : ℕ) (t : Bool) (m : mag (get_or ds i (pos 0)) < 2 ^ hbits w64) (e : t ≡ signed_entry_fits (get_or ws i 0) (to_z w64 (of_z w64 (get_or ds i (pos 0))))) where
-  flag : t ≡ signed_entry_fits_at ws ds i
-  unfolding signed_entry_fits_at
-  flag = e ∙ ap (signed_entry_fits (get_or ws i 0)) (to_z-of_z {w = w64} {z = get_or ds i (pos 0)} (sfits_of m))
+  place : position_or_len breaks (zip ws ds) ≡ limits_entry (type_of_lists ws ds x)
+  unfolding limits_entry entries
+  place =
+      let t = type_of_lists ws ds x in
+      position_or_len_is breaks (zip ws ds) (least_false (entry_allowed t) (length ws)) (0, pos 0)
+      (omega (arith, zipped, least_false_le (entry_allowed t) (length ws)))
+      (λ k l. breaks_at k (omega (arith, least_false_le (entry_allowed t) (length ws))) ∙ ap not (least_false_keeps (entry_allowed t) (length ws) k l))
+      (λ l. let h : least_false (entry_allowed t) (length ws) < length ws = omega (arith, zipped) in breaks_at _ h ∙ ap not (least_false_breaks (entry_allowed t) (length ws) h))
 
-  pub lent_yes : not t ≡ false → signed_entry_fits_at ws ds i ≡ true
-  lent_yes n = unflag_true t _ flag n
+  searched : position breaks (zip ws ds) ≡ cond (ltb (limits_entry (type_of_lists ws ds x)) (length ws)) (Some (limits_entry (type_of_lists ws ds x))) None
+  searched = rw (place, zipped)
 
-  pub lent_no : not t ≡ true → signed_entry_fits_at ws ds i ≡ false
-  lent_no n = unflag_false t _ flag n
+  pub entry_found : (i : ℕ) → Some i ≡ position breaks (zip ws ds) → (i ≡ limits_entry (type_of_lists ws ds x)) × (i < length ws) × (entries_allowed (type_of_lists ws ds x) ≡ false)
+  unfolding entries_allowed all limits_entry entries
+  entry_found i e = cases (ltb (limits_entry (type_of_lists ws ds x)) (length ws)) refl
+    where
+      cases : (b : Bool) → ltb (limits_entry (type_of_lists ws ds x)) (length ws) ≡ b → (i ≡ limits_entry (type_of_lists ws ds x)) × (i < length ws) × (entries_allowed (type_of_lists ws ds x) ≡ false)
+      cases true q =
+          let f : Some i ≡ Some (limits_entry (type_of_lists ws ds x)) = e ∙ searched ∙ ap (λ b. cond b (Some (limits_entry (type_of_lists ws ds x))) None) q in
+          let p : i ≡ limits_entry (type_of_lists ws ds x) = cc in
+          let l = ltb-true _ _ q in
+          (p, omega (arith, p, l), ne_eqb _ _ (λ z. omega (arith, z, l)))
+      cases false q = let f : Some i ≡ None = e ∙ searched ∙ ap (λ b. cond b (Some (limits_entry (type_of_lists ws ds x))) None) q in absurd (cc)
 
--- ---- the flags of checks 3 to 6
+  pub none_found : None ≡ position breaks (zip ws ds) → (entries_allowed (type_of_lists ws ds x) ≡ true) × (length ws ≤ limits_entry (type_of_lists ws ds x))
+  unfolding entries_allowed all limits_entry entries
+  none_found e = cases (ltb (limits_entry (type_of_lists ws ds x)) (length ws)) refl
+    where
+      cases : (b : Bool) → ltb (limits_entry (type_of_lists ws ds x)) (length ws) ≡ b → (entries_allowed (type_of_lists ws ds x) ≡ true) × (length ws ≤ limits_entry (type_of_lists ws ds x))
+      cases true q = let f : None ≡ Some (limits_entry (type_of_lists ws ds x)) = e ∙ searched ∙ ap (λ b. cond b (Some (limits_entry (type_of_lists ws ds x))) None) q in absurd (cc)
+      cases false q = let l = ltb-false _ _ q in (eq-eqb _ _ (omega (arith, l, least_false_le (entry_allowed (type_of_lists ws ds x)) (length ws))), l)
 
-module _ (z : ℤ) (t : Bool) (f : SFits w64 z) where
-  pub displacement_yes : t ≡ displacement_allowed (to_z w64 (of_z w64 z)) → not t ≡ false → displacement_allowed z ≡ true
-  displacement_yes e n = unflag_true t _ (e ∙ ap displacement_allowed (to_z-of_z f)) n
+-- ---- the flags of checks 3 to 5
 
-  pub displacement_no : t ≡ displacement_allowed (to_z w64 (of_z w64 z)) → not t ≡ true → displacement_allowed z ≡ false
-  displacement_no e n = unflag_false t _ (e ∙ ap displacement_allowed (to_z-of_z f)) n
-
-  pub extent_is : t ≡ extent_allowed (to_z w64 (of_z w64 z)) → t ≡ extent_allowed z
-  extent_is e = e ∙ ap extent_allowed (to_z-of_z f)
-
-  pub extent_yes : t ≡ extent_allowed (to_z w64 (of_z w64 z)) → not t ≡ false → extent_allowed z ≡ true
-  extent_yes e n = unflag_true t _ (extent_is e) n
-
-  pub extent_no : t ≡ extent_allowed (to_z w64 (of_z w64 z)) → not t ≡ true → extent_allowed z ≡ false
-  extent_no e n = unflag_false t _ (extent_is e) n
+pub displacement_yes : (z : ℤ) (t : Bool) → SFits w64 z → t ≡ displacement_allowed (to_z w64 (of_z w64 z)) → not t ≡ false → displacement_allowed z ≡ true
+displacement_yes z t f e n = unflag_true t _ (e ∙ ap displacement_allowed (to_z-of_z f)) n
 
 -- the extents of both types
 module _ (x y : ℤ) (t : Bool) (f : SFits w64 x) (g : SFits w64 y) (e : t ≡ also (extent_allowed (to_z w64 (of_z w64 x))) (extent_allowed (to_z w64 (of_z w64 y)))) where
@@ -72,35 +89,22 @@ module _ (x y : ℤ) (t : Bool) (f : SFits w64 x) (g : SFits w64 y) (e : t ≡ a
   pub extents_no : not t ≡ true → also (extent_allowed x) (extent_allowed y) ≡ false
   extents_no n = unflag_false t _ both n
 
--- entry i is the first that is not allowed, or all are
-module _ (ws : List ℕ) (ds : List ℤ) (x : ℤ) (i : ℕ) (e : i ≡ least_false (signed_entry_fits_at ws ds) (length ws)) where
-  found : i ≡ limits_entry (type_of_lists ws ds x)
-  unfolding limits_entry entry_allowed entries width_at signed_entry_fits_at signed_entry_fits
-  found = e
-
-  pub entries_yes : length ws ≤ i → entries_allowed (type_of_lists ws ds x) ≡ true
-  unfolding limits_entry entries_allowed all entries
-  entries_yes l = eq-eqb (limits_entry (type_of_lists ws ds x)) (length ws) (omega (arith, found, least_false_le (entry_allowed (type_of_lists ws ds x)) (length ws)))
-
-  pub entries_no : i < length ws → entries_allowed (type_of_lists ws ds x) ≡ false
-  unfolding limits_entry entries_allowed all entries
-  entries_no l = ne_eqb (limits_entry (type_of_lists ws ds x)) (length ws) (λ q. omega (arith, found))
-
 -- what check 6 names
-module _ (d : ℤ) (ew : List ℕ) (ed : List ℤ) (ex : ℤ) (fw : List ℕ) (fd : List ℤ) (fx : ℤ) (i : ℕ) (e : i ≡ least_false (signed_entry_fits_at ew ed) (length ew)) where
-  pub etype_named : i < length ew → EtypeEntry i ≡ named_by (view_of_lists d ew ed ex fw fd fx) 6
+module _ (d : ℤ) (ew : List ℕ) (ed : List ℤ) (ex : ℤ) (fw : List ℕ) (fd : List ℤ) (fx : ℤ) (i : ℕ) where
+  pub etype_named : i ≡ limits_entry (type_of_lists ew ed ex) → i < length ew → EtypeEntry i ≡ named_by (view_of_lists d ew ed ex fw fd fx) 6
   unfolding named_by of_both entries
-  etype_named l = rw (sym (found ew ed ex i e), lt-ltb i (length ew) l)
+  etype_named e l = rw (sym e, lt-ltb i (length ew) l)
 
-  pub filetype_named : (j : ℕ) → j ≡ least_false (signed_entry_fits_at fw fd) (length fw) → length ew ≤ i → FiletypeEntry j ≡ named_by (view_of_lists d ew ed ex fw fd fx) 6
+  pub filetype_named : length ew ≤ limits_entry (type_of_lists ew ed ex) → i ≡ limits_entry (type_of_lists fw fd fx) → FiletypeEntry i ≡ named_by (view_of_lists d ew ed ex fw fd fx) 6
   unfolding named_by of_both entries
-  filetype_named j q l = rw (sym (found ew ed ex i e), sym (found fw fd fx j q), le-ltb i (length ew) l)
+  filetype_named l e = rw (sym e, le-ltb (limits_entry (type_of_lists ew ed ex)) (length ew) l)
 
-module _ (a b c d : ℕ) (t : Bool) (e : t ≡ lengths_allowed a b c d) (n : not t ≡ false) where
+-- the lengths of each type's lists
+module _ (a b c d : ℕ) (h : lengths_allowed a b c d ≡ true) where
   pub etype_pairs : b ≡ a
   unfolding lengths_allowed
-  etype_pairs = sym (eqb-true a b (also_inv _ _ (unflag_true t _ e n)).0)
+  etype_pairs = sym (eqb-true a b (also_inv _ _ h).0)
 
   pub filetype_pairs : d ≡ c
   unfolding lengths_allowed
-  filetype_pairs = sym (eqb-true c d (also_inv _ _ (also_inv _ _ (unflag_true t _ e n)).1).0)
+  filetype_pairs = sym (eqb-true c d (also_inv _ _ (also_inv _ _ h).1).0)

@@ -1,13 +1,13 @@
 -- Checks 2 to 6 are the beginning of a set's chain: a refusal of theirs is the chain's, and the numbers after them are none of theirs.
-use Rattle.laws.proofs.Prelude.{ℕ, ◌≡◌, refl, sym, ◌∙◌, Bool, true, false, not, List, ⊎_elim, length, leb, lit<, also, either, check, cond, eq_or_ne, not_both, Passes, ends_here, check_passes}
+use Rattle.laws.proofs.Prelude.{ℕ, ◌≡◌, refl, sym, ap, ◌∙◌, Bool, true, false, not, List, ⊎_elim, length, leb, lit<, also, either, check, cond, eq_or_ne, not_both, Passes, ends_here, check_passes, check_yes}
 use Rattle.view.specs.Limits.{extent_allowed, displacement_allowed}
 use Rattle.view.specs.Modes.{allows_writing}
 use Rattle.view.specs.Types.{PaperView, entries}
 use Rattle.view.specs.Rules.{is_native, paired, entries_allowed, type_ordered, whole_groups, view_holes_fit}
-use Rattle.view.specs.Parts.{group_matches, origin_allowed, deciding_group, clear}
+use Rattle.view.specs.Parts.{group_matches, origin_allowed, deciding_group, clear, named_by, fault_by}
 use Rattle.view.specs.Acceptance.{view_refusal, set_refusal}
 use Rattle.rule_limits.specs.Parts.{lengths_allowed}
-use Rattle.rule_lists.specs.Parts.{limits_refusal}
+use Rattle.rule_lists.specs.Parts.{limits_refusal, limits_fault}
 
 -- the beginning of the chain, and its end
 unfoldable pub up_to6 : List ℕ → PaperView → ℕ → ℕ
@@ -72,3 +72,12 @@ unfolding limits_refusal
 chain_begins r v =
     ⊎_elim (λ z. z ∙ cut (set_refusal 1 r v) (from7 1 v) (chain_is 1 r v ∙ (limits_pass r v).on (from7 1 v) z) (high 1 v))
     (λ z. let e : set_refusal 1 r v ≡ up_to6 r v 0 = chain_is 1 r v ∙ (limits_pass r v).stops (from7 1 v) z in rw (e, low r v)) (eq_or_ne (up_to6 r v 0) 0)
+
+-- checks 2 to 5 passed, it is that of check 6
+pub from_entries : (r : List ℕ) (v : PaperView) (k : ℕ) → is_native r ≡ true → displacement_allowed v.displacement ≡ true → lengths_allowed (length v.etype.widths) (length v.etype.displacements) (length v.filetype.widths) (length v.filetype.displacements) ≡ true → also (extent_allowed v.etype.extent) (extent_allowed v.filetype.extent) ≡ true → k ≡ check (also (entries_allowed v.etype) (entries_allowed v.filetype)) 6 0 → k ≡ limits_refusal r v
+unfolding up_to6
+from_entries r v k a b c d e = check_yes _ 2 _ _ a (check_yes _ 3 _ _ b (check_yes _ 4 _ _ c (check_yes _ 5 _ _ d e))) ∙ chain_begins r v
+
+pub limits_are : (r : List ℕ) (v : PaperView) → limits_fault r v ≡ fault_by (named_by v) (up_to6 r v 0)
+unfolding limits_fault
+limits_are r v = ap (fault_by (named_by v)) (sym (chain_begins r v))

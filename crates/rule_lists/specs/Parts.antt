@@ -1,24 +1,12 @@
 -- Need not be believed. What the functions of this crate test, part by part.
-use Rattle.std.specs.Prelude.{ℕ, Bool, cond, List, leb, eqb, ℤ, pos, get_or}
-use Rattle.laws.specs.Lists.{nth}
-use Rattle.view.specs.declared.Fault.{Fault}
-use Rattle.view.specs.Parts.{named_by, fault_by}
+use Rattle.std.specs.Prelude.{ℕ, cond, List, leb, ℤ}
+use Rattle.view.specs.Parts.{Fault, named_by, fault_by}
 use Rattle.view.specs.Types.{PaperType, PaperView}
-use Rattle.view.specs.Rules.{native_name}
 use Rattle.view.specs.Acceptance.{set_refusal}
-use Rattle.rule_limits.specs.Parts.{signed_entry_fits}
 
 -- the type that lent lists and an extent are
 abbrev pub type_of_lists : List ℕ → List ℤ → ℤ → PaperType
 type_of_lists ws ds x = record { widths = ws; displacements = ds; extent = x }
-
--- byte i of a representation is that of `native`
-unfoldable pub native_at : List ℕ → ℕ → Bool
-native_at r i = eqb (nth r i) (nth native_name i)
-
--- entry i of a type, as it is lent
-unfoldable pub signed_entry_fits_at : List ℕ → List ℤ → ℕ → Bool
-signed_entry_fits_at ws ds i = signed_entry_fits (nth ws i) (get_or ds i (pos 0))
 
 -- checks 2 to 6: the refusal number of a set, of whatever mode, where it is one of these, else 0
 unfoldable pub limits_refusal : List ℕ → PaperView → ℕ

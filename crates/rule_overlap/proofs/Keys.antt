@@ -106,18 +106,8 @@ module _ (f : ℕ) (a b : List ℕ) (s : Sorted a b) (v : KeysValid a f) where
       lowest = turn_lowest (λ i. nth b i / 16) (λ i. nth b i % 16) (length b) f (follow_turn h)
 
   -- sorted keys keep the rule exactly if each ends before the next begins
-  pub sorted_rule : keys_follow f b ≡ all (key_clear f a) (length a)
+  sorted_rule : keys_follow f b ≡ all (key_clear f a) (length a)
   sorted_rule = iff _ _ follow_clear clear_follow
-
-  -- and they are keys of the same limits
-  pub sorted_valid : KeysValid b f
-  sorted_valid = record {
-    some = some;
-    few = omega (arith, v.few, same_length);
-    extent = v.extent;
-    begins = permuted_all (λ x. x / 16 < f) s.same v.begins;
-    widths = width_some;
-  }
 
   pub sorted_answer : (t : Bool) → t ≡ keys_follow f b → t ≡ all (key_clear f a) (length a)
   sorted_answer t h = h ∙ sorted_rule

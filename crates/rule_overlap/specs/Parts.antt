@@ -3,20 +3,18 @@ use Rattle.std.specs.Prelude.{ℕ, ◌+◌, ◌-◌, ◌*◌, ◌/◌, ◌%◌, 
 use Rattle.laws.specs.Checks.{also}
 use Rattle.laws.specs.Search.{all}
 use Rattle.laws.specs.Lists.{nth}
-use Rattle.view.specs.declared.Numbers.{Numbers}
+use Rattle.view.specs.declared.View.{View}
 use Rattle.view.specs.Parts.{clear_of, max_extent, max_entry_end, max_filetype_entries, max_etype_entries, max_instances}
 
 -- the key of an entry of width w at displacement d, in tiles of f bytes
 abbrev pub key_of : ℕ → ℕ → ℕ → ℕ
 key_of f d w = d % f * 16 + w
 
--- the key of entry i of these widths and displacements, shifted
-unfoldable pub key_at : List ℕ → List ℕ → ℕ → ℕ → ℕ → ℕ
-key_at ws ds shift f i = key_of f (shift + nth ds i) (nth ws i)
-
--- the key of entry i of groups of n, each shifted by its origin
-unfoldable pub group_key : List ℕ → List ℕ → List ℕ → ℕ → ℕ → ℕ → ℕ
-group_key ws ds ps n f i = key_at ws ds (nth ps (i / n)) f (i % n)
+-- the key of entry i of a view's filetype, without its paper view: entry i mod n of the etype, shifted by origin i div n
+unfoldable pub group_key : View → ℕ → ℕ
+group_key v i =
+    let n = v.numbers.etype.entries in
+    key_of v.numbers.filetype.extent (nth v.origins (i / n) + nth v.displacements (i % n)) (nth v.widths (i % n))
 
 -- no bytes of two keys clash
 unfoldable pub keys_apart : ℕ → ℕ → ℕ → Bool
@@ -43,19 +41,7 @@ pub record KeysValid (keys : List ℕ) (f : ℕ) : Type 0 where
   pub some : 0 < length keys
   pub few : length keys ≤ max_filetype_entries
   pub extent : f ≤ max_extent
-  pub begins : (i : ℕ) → i < length keys → nth keys i / 16 < f
   pub widths : (i : ℕ) → i < length keys → 0 < nth keys i % 16
-
--- entries of which keys are made, shifted, and room for their keys from `at` on in a list of `room`
-pub record Keyed (ws ds : List ℕ) (shift f at room : ℕ) : Type 0 where
-  pub pairs : length ds ≡ length ws
-  pub some_extent : 0 < f
-  pub extent : f ≤ max_extent
-  pub small : shift ≤ max_entry_end
-  pub displacements : (i : ℕ) → i < length ws → nth ds i ≤ max_entry_end
-  pub widths : (i : ℕ) → i < length ws → nth ws i < 16
-  pub fits : at + length ws ≤ room
-  pub few : room ≤ max_filetype_entries
 
 -- the entries of a filetype, within the limits that checks 4 to 6 leave
 pub record EntriesReady (ws ds : List ℕ) (f : ℕ) : Type 0 where
@@ -68,14 +54,14 @@ pub record EntriesReady (ws ds : List ℕ) (f : ℕ) : Type 0 where
   pub widths : (i : ℕ) → i < length ws → (0 < nth ws i) × (nth ws i < 16)
 
 -- the same of a view's record
-pub record RecordReady (v : Numbers) (ws ds ps : List ℕ) : Type 0 where
-  pub some : 0 < v.etype.entries
-  pub few : v.etype.entries ≤ max_etype_entries
-  pub some_instances : 0 < v.filetype.instances
-  pub few_instances : v.filetype.instances ≤ max_instances
-  pub total : v.filetype.instances * v.etype.entries ≤ max_filetype_entries
-  pub some_extent : 0 < v.filetype.extent
-  pub extent : v.filetype.extent ≤ max_extent
-  pub displacements : (i : ℕ) → i < v.etype.entries → nth ds i ≤ max_entry_end
-  pub widths : (i : ℕ) → i < v.etype.entries → (0 < nth ws i) × (nth ws i < 16)
-  pub origins : (g : ℕ) → g < v.filetype.instances → nth ps g ≤ max_entry_end
+pub record RecordReady (v : View) : Type 0 where
+  pub some : 0 < v.numbers.etype.entries
+  pub few : v.numbers.etype.entries ≤ max_etype_entries
+  pub some_instances : 0 < v.numbers.filetype.instances
+  pub few_instances : v.numbers.filetype.instances ≤ max_instances
+  pub total : v.numbers.filetype.instances * v.numbers.etype.entries ≤ max_filetype_entries
+  pub some_extent : 0 < v.numbers.filetype.extent
+  pub extent : v.numbers.filetype.extent ≤ max_extent
+  pub displacements : (i : ℕ) → i < v.numbers.etype.entries → nth v.displacements i ≤ max_entry_end
+  pub widths : (i : ℕ) → i < v.numbers.etype.entries → (0 < nth v.widths i) × (nth v.widths i < 16)
+  pub origins : (g : ℕ) → g < v.numbers.filetype.instances → nth v.origins g ≤ max_entry_end

@@ -2,7 +2,7 @@
 use Rattle.laws.proofs.Prelude.{ℕ, ◌+◌, ◌-◌, ◌*◌, ◌%◌, ◌≤◌, ◌<◌, ◌≡◌, refl, sym, ap, ◌∙◌, true, false, not, List, ⊎_elim, arith, length, eqb, lt-ltb, le-ltb, also, either, check, nth, all, all_same, least_false, least_false_le, least_false_same, check_step, lt_or_le, run_below}
 use Rattle.view.specs.declared.Named.{Named}
 use Rattle.view.specs.declared.Named.TheVariants.{FiletypeEntry}
-use Rattle.view.specs.Types.{PaperView, entries, width_at, displacement_at, extent_of, whole}
+use Rattle.view.specs.Types.{PaperView, entries, width_at, displacement_at, extent_of}
 use Rattle.view.specs.Rules.{type_ordered, whole_groups, instances, origin, hole_allowed, view_holes_fit}
 use Rattle.view.specs.Parts.{in_order, ordered, holes_fit, entry_matches, group_matches, origin_allowed, group_built, deciding_group, order_entry, of_both, differing_entry, below_entry, hole_names, hole_entry, next_begins, entry_apart, apart, clear_of, entry_clear, clear, overlap_entry, named_by, fault_of, fault_by, record_of}
 use Rattle.view.specs.Modes.{allows_writing}

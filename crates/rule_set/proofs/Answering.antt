@@ -1,19 +1,18 @@
 -- The answers of `accept`, from what its calls ensure.
-use Rattle.laws.proofs.Prelude.{ℕ, ◌/◌, zero, suc, ◌≤◌, ◌<◌, ◌≡◌, sym, ap, ◌∙◌, subst, List, ⊎_elim, arith, length, take, replicate, get_or-replicate, length-replicate, ℤ, length-take-le, w64, SFits, to_z, of_z, to_z-of_z, granted, nth, front, granted_yes, granted_no, eq_or_ne, length_store}
-use Rattle.view.specs.declared.Fault.{Fault}
-use Rattle.view.specs.declared.Named.TheVariants.{Nothing}
+use Rattle.laws.proofs.Prelude.{ℕ, ◌/◌, zero, suc, ◌≤◌, ◌<◌, ◌≡◌, refl, sym, ap, ◌∙◌, subst, List, ⊎_elim, arith, length, take, replicate, get_or-replicate, length-replicate, ℤ, length-take-le, w64, SFits, to_z, of_z, to_z-of_z, granted, nth, front, granted_yes, granted_no, eq_or_ne, length_store}
+use Rattle.std.specs.Prelude.{Ok, Err}
+use Rattle.view.specs.declared.Refused.{Refused}
 use Rattle.view.specs.declared.View.{View}
 use Rattle.view.specs.Types.{PaperView, paper, entries, width_at, extent_of, whole, view_of_lists}
-use Rattle.view.specs.Parts.{default_view, named_by, fault_of, fault_by, record_of}
+use Rattle.view.specs.Parts.{default_view, named_by, fault_of, fault_by, record_of, fault_in, refusal_in}
 use Rattle.view.specs.Acceptance.{set_refusal}
 use Rattle.view.specs.Rules.{instances, origin}
 use Rattle.view.proofs.Holding.{held_past, record_same}
-use Rattle.rule_set.specs.declared.Accepted.{Accepted}
+use Rattle.view.proofs.Numbered.{refused_some}
 use Rattle.rule_lists.specs.Parts.{limits_refusal, limits_fault}
-use Rattle.rule_set.specs.Parts.{accept_answer, UnusedZero, AcceptedAs, Limited, shapes_fault, ShapesReady, RecordAccepted, ListsAccepted}
+use Rattle.rule_set.specs.Parts.{Accepted, accepted_in, accept_answer, UnusedZero, AcceptedAs, Limited, shapes_fault, ShapesReady, RecordAccepted, ListsAccepted}
 use Rattle.rule_groups.specs.Parts.{whole_at, Recordable, view_record}
 use Rattle.rule_set.proofs.Chain.{limited, limits_refused, limits_granted, set_accepted}
-use Rattle.rule_set.proofs.Shaping.{none_named}
 use Rattle.rule_set.proofs.Recording.{naturals_of, record_hold, recordable, etype_some, pairs_few}
 use Rattle.rule_set.proofs.Accepting.{shapes_same, ready}
 
@@ -73,20 +72,15 @@ module _ (mode : ℕ) (w x : View) (fw fd : List ℕ) (e : x ≡ w) where
   pub record_ready : ShapesReady w fw fd → ShapesReady x fw fd
   record_ready s = rw e s
 
-  module _ (f : Fault) (q : f ≡ shapes_fault x fw fd mode) where
-    on_record : f ≡ shapes_fault w fw fd mode
-    on_record = q ∙ ap (λ (z : View). shapes_fault z fw fd mode) e
+  pub record_refused : (f : Refused) → fault_in {A = Unit {0}} (Err f) ≡ shapes_fault x fw fd mode → RecordAccepted mode w fw fd (accepted_in (Err f))
+  unfolding accepted_in fault_in refusal_in
+  record_refused f q = record { fault = q ∙ ap (λ (z : View). shapes_fault z fw fd mode) e; view = sym (granted_no _ w default_view (refused_some View f.refusal)) }
 
-    pub record_refused : (f.refusal ≡ 0 → ⊥) → (a : Accepted) → (a.refusal ≡ f.refusal) × (a.named ≡ f.named) × (a.view ≡ default_view) → RecordAccepted mode w fw fd a
-    record_refused h a r = record {
-      fault = (λ i. fault_of (r.0 i) (r.1 i)) ∙ on_record;
-      view = r.2 ∙ sym (granted_no a.refusal w default_view (λ z. h (sym r.0 ∙ z)));
-    }
+  pub record_granted : (t : Unit {0}) → fault_in {A = Unit {0}} (Ok t) ≡ shapes_fault x fw fd mode → RecordAccepted mode w fw fd (accepted_in (Ok x))
+  unfolding accepted_in fault_in granted
+  record_granted t q = record { fault = q ∙ ap (λ (z : View). shapes_fault z fw fd mode) e; view = e }
 
-    -- a fault of number 0 names nothing
-    pub record_granted : f.refusal ≡ 0 → RecordAccepted mode w fw fd (record { refusal = 0; named = Nothing; view = x })
-    unfolding granted
-    record_granted z = record { fault = none_named w fw fd mode f on_record z; view = e }
+pub ruleset recorded = (record_ready, record_refused, record_granted)
 
 -- ---- `accept_lists`: the filetype's displacements as natural numbers, and the three signed numbers as the machine reads them
 
@@ -136,26 +130,28 @@ module _ (mode : ℕ) (r : List ℕ) (d : ℤ) (ew : List ℕ) (ed : List ℤ) (
   read : view_of_lists (to_z w64 (of_z w64 d)) ew ed (to_z w64 (of_z w64 ex)) fw fd (to_z w64 (of_z w64 fx)) ≡ view_of_lists d ew ed ex fw fd fx
   read = let p = to_z-of_z sd in let q = to_z-of_z se in let s = to_z-of_z sf in λ i. view_of_lists (p i) ew ed (q i) fw fd (s i)
 
-  module _ (f : Fault) (ef : f ≡ limits_fault r (view_of_lists (to_z w64 (of_z w64 d)) ew ed (to_z w64 (of_z w64 ex)) fw fd (to_z w64 (of_z w64 fx)))) where
-    limits : f ≡ fault_by (named_by (view_of_lists d ew ed ex fw fd fx)) (limits_refusal r (view_of_lists d ew ed ex fw fd fx))
-    unfolding limits_fault
-    limits = ef ∙ ap (limits_fault r) read
+  limits : limits_fault r (view_of_lists (to_z w64 (of_z w64 d)) ew ed (to_z w64 (of_z w64 ex)) fw fd (to_z w64 (of_z w64 fx))) ≡ fault_by (named_by (view_of_lists d ew ed ex fw fd fx)) (limits_refusal r (view_of_lists d ew ed ex fw fd fx))
+  unfolding limits_fault
+  limits = ap (limits_fault r) read
 
-    number : f.refusal ≡ limits_refusal r (view_of_lists d ew ed ex fw fd fx)
-    unfolding fault_by
-    number = ap (λ x. x.refusal) limits
+  pub refused_limits : (f : Refused) → fault_in {A = Unit {0}} (Err f) ≡ limits_fault r (view_of_lists (to_z w64 (of_z w64 d)) ew ed (to_z w64 (of_z w64 ex)) fw fd (to_z w64 (of_z w64 fx))) → AcceptedAs mode r (view_of_lists d ew ed ex fw fd fx) (accepted_in (Err f))
+  unfolding accepted_in fault_in refusal_in fault_by
+  refused_limits f e =
+      let q = e ∙ limits in
+      let h = refused_some View f.refusal in
+      let n = limits_refused mode r _ _ (ap (λ x. x.refusal) q) h in
+      refused_as mode r _ _ (q ∙ ap (fault_by (named_by (view_of_lists d ew ed ex fw fd fx))) (sym (ap (λ x. x.refusal) q) ∙ n)) h refl
 
-    pub refused_limits : (a : Accepted) → (f.refusal ≡ 0 → ⊥) → (a.refusal ≡ f.refusal) × (a.named ≡ f.named) × (a.view ≡ default_view) → AcceptedAs mode r (view_of_lists d ew ed ex fw fd fx) a
-    refused_limits a h e =
-        let n = limits_refused mode r _ f.refusal number h in
-        refused_as mode r _ a ((λ i. fault_of (e.0 i) (e.1 i)) ∙ limits ∙ ap (fault_by (named_by (view_of_lists d ew ed ex fw fd fx))) (sym number ∙ n)) (λ z. h (sym e.0 ∙ z)) e.2
+  module _ (t : Unit {0}) (e : fault_in {A = Unit {0}} (Ok t) ≡ limits_fault r (view_of_lists (to_z w64 (of_z w64 d)) ew ed (to_z w64 (of_z w64 ex)) fw fd (to_z w64 (of_z w64 fx)))) where
+    number : 0 ≡ limits_refusal r (view_of_lists d ew ed ex fw fd fx)
+    unfolding fault_in fault_by
+    number = ap (λ x. x.refusal) (e ∙ limits)
 
-    module _ (z : f.refusal ≡ 0) where
-      pub limits_leave : Limited (view_of_lists (to_z w64 (of_z w64 d)) ew ed (to_z w64 (of_z w64 ex)) fw fd (to_z w64 (of_z w64 fx)))
-      limits_leave = rw read (limited r _ f.refusal number z)
+    pub limits_leave : Limited (view_of_lists (to_z w64 (of_z w64 d)) ew ed (to_z w64 (of_z w64 ex)) fw fd (to_z w64 (of_z w64 fx)))
+    limits_leave = rw read (limited r _ 0 number refl)
 
-      pub accepted_shaped : (a : Accepted) → ListsAccepted mode (view_of_lists (to_z w64 (of_z w64 d)) ew ed (to_z w64 (of_z w64 ex)) fw fd (to_z w64 (of_z w64 fx))) a → AcceptedAs mode r (view_of_lists d ew ed ex fw fd fx) a
-      accepted_shaped a s = shaped_accepted mode r _ a (t.fault ∙ ap (fault_by (named_by (view_of_lists d ew ed ex fw fd fx))) (limits_granted r _ f.refusal number z mode)) t.view
-        where
-          t : ListsAccepted mode (view_of_lists d ew ed ex fw fd fx) a
-          t = subst (λ (v : PaperView). ListsAccepted mode v a) read s
+    pub accepted_shaped : (a : Accepted) → ListsAccepted mode (view_of_lists (to_z w64 (of_z w64 d)) ew ed (to_z w64 (of_z w64 ex)) fw fd (to_z w64 (of_z w64 fx))) a → AcceptedAs mode r (view_of_lists d ew ed ex fw fd fx) a
+    accepted_shaped a s = shaped_accepted mode r _ a (p.fault ∙ ap (fault_by (named_by (view_of_lists d ew ed ex fw fd fx))) (limits_granted r _ 0 number refl mode)) p.view
+      where
+        p : ListsAccepted mode (view_of_lists d ew ed ex fw fd fx) a
+        p = subst (λ (v : PaperView). ListsAccepted mode v a) read s

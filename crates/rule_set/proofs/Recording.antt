@@ -1,5 +1,5 @@
 -- What the code builds of lent lists that keep the limits is the record of the view.
-use Rattle.laws.proofs.Prelude.{ℕ, ◌+◌, ◌-◌, ◌*◌, ◌/◌, ◌≤◌, ◌<◌, ◌≡◌, refl, sym, ap, ◌∙◌, List, arith, div-mul-le_self, mul-le-mul_right, div-lt_iff_lt-mul, length, take, replicate, length-replicate, ℤ, get_or-take, length-take-le, leb-true, nth, front, also_inv, within_inv, times_more, length_store, store_same}
+use Rattle.laws.proofs.Prelude.{ℕ, ◌+◌, ◌*◌, ◌/◌, ◌≤◌, ◌<◌, ◌≡◌, refl, sym, ap, ◌∙◌, List, arith, div-mul-le_self, mul-le-mul_right, div-lt_iff_lt-mul, length, take, replicate, length-replicate, ℤ, get_or-take, length-take-le, leb-true, nth, front, also_inv, within_inv, times_more, length_store, store_same}
 use Rattle.view.specs.Limits.{etype_entries_allowed, filetype_entries_allowed}
 use Rattle.view.specs.Types.{PaperView, entries, width_at, displacement_at, extent_of, whole}
 use Rattle.view.specs.Rules.{instances, origin}

@@ -1,18 +1,16 @@
 -- The checks from 7 on on the records: each function's refusal number follows its chain, and what it names is what the chain's number names.
 use Rattle.laws.proofs.Prelude.{ℕ, ◌+◌, ◌-◌, ◌*◌, ◌/◌, ◌%◌, ◌^◌, ◌≤◌, ◌<◌, ◌≡◌, refl, sym, ap, ◌∙◌, Bool, true, false, not, List, ⊎_elim, arith, div-add-mod', eq-zero-or-pos, zero-mul, mul-le-mul_right, length, take, w64, Fits, get_or-take, length-take-le, eq-eqb, ne_eqb, lt-ltb, le-ltb, also, check, check_step, nth, all, least_false, least_false_le, least_false_same, either_left, either_right, either_no, lt_or_le, check_yes, check_no, check_zero, check_inv, lit<, also_true, upto}
 use Rattle.laws.proofs.Searching.{all_yes, all_no}
-use Rattle.view.specs.declared.Fault.{Fault}
 use Rattle.view.specs.declared.Named.{Named}
 use Rattle.view.specs.declared.Named.TheVariants.{Nothing, EtypeEntry, FiletypeEntry}
 use Rattle.view.specs.declared.Numbers.{Numbers}
 use Rattle.view.specs.declared.View.{View}
 use Rattle.view.specs.Modes.{allows_writing}
-use Rattle.view.specs.Parts.{view_with, in_order, ordered, holes_fit, hole_names, entry_clear, fault_of, fault_by}
+use Rattle.view.specs.Parts.{Fault, in_order, ordered, holes_fit, hole_names, entry_clear, fault_of, fault_by}
 use Rattle.view.proofs.Telling.{fault_by_law}
 use Rattle.rule_entries.specs.Parts.{apart_in}
 use Rattle.rule_instances.specs.Parts.{hole_fits}
-use Rattle.rule_groups.specs.declared.GroupFault.{GroupFault}
-use Rattle.rule_groups.specs.Parts.{first_group_fault, group_matches_at, origin_at, deciding}
+use Rattle.rule_groups.specs.Parts.{GroupNumbers, first_group_fault, group_matches_at, origin_at, deciding}
 use Rattle.rule_set.specs.Parts.{tiles_refusal, tile_names, tiles_fault, TilesReady, groups_refusal, groups_names, groups_fault, shapes_refusal, order_names, shape_names, shapes_fault, ShapesReady}
 
 -- ---- order: n displacements d, of which r is the first below the one before it, or a number past the last
@@ -48,25 +46,25 @@ module _ (fw ds : List ℕ) (r : ℕ) (e : r ≡ least_false (in_order (nth ds))
   filetype_falls l = first_no (nth ds) (length ds) r (omega arith) e l
 
 -- the entry that is named
-module _ (v : Numbers) (ws ds ps fw fd : List ℕ) (r : ℕ) (e : r ≡ least_false (in_order (nth (take v.etype.entries ds))) (length (take v.etype.entries ds) - 1) + 1) (long : length ds ≡ 8) (few : v.etype.entries ≤ 8) where
-  pub etype_names : r < v.etype.entries → EtypeEntry r ≡ shape_names (view_with v ws ds ps) fw fd 7
+module _ (w : View) (fw fd : List ℕ) (r : ℕ) (e : r ≡ least_false (in_order (nth (take w.numbers.etype.entries w.displacements))) (length (take w.numbers.etype.entries w.displacements) - 1) + 1) (long : length w.displacements ≡ 8) (few : w.numbers.etype.entries ≤ 8) where
+  pub etype_names : r < w.numbers.etype.entries → EtypeEntry r ≡ shape_names w fw fd 7
   unfolding shape_names order_names
-  etype_names l = rw (sym (found ds v.etype.entries r e long few), lt-ltb r v.etype.entries l)
+  etype_names l = rw (sym (found w.displacements w.numbers.etype.entries r e long few), lt-ltb r w.numbers.etype.entries l)
 
-  pub filetype_names : (q : ℕ) → q ≡ least_false (in_order (nth fd)) (length fd - 1) + 1 → v.etype.entries ≤ r → FiletypeEntry q ≡ shape_names (view_with v ws ds ps) fw fd 7
+  pub filetype_names : (q : ℕ) → q ≡ least_false (in_order (nth fd)) (length fd - 1) + 1 → w.numbers.etype.entries ≤ r → FiletypeEntry q ≡ shape_names w fw fd 7
   unfolding shape_names order_names
-  filetype_names q f l = rw (sym (found ds v.etype.entries r e long few), sym f, le-ltb r v.etype.entries l)
+  filetype_names q f l = rw (sym (found w.displacements w.numbers.etype.entries r e long few), sym f, le-ltb r w.numbers.etype.entries l)
 
 -- ---- whole groups
 
-module _ (v : Numbers) (ws ds ps fw fd : List ℕ) (s : ShapesReady (view_with v ws ds ps) fw fd) (whole : length fw % v.etype.entries ≡ 0) where
-  instances_all : v.filetype.instances * v.etype.entries ≡ length fw
-  instances_all = omega (arith, ap (λ (z : ℕ). z * v.etype.entries) (s.groups ∙ ap (λ (z : ℕ). z / v.etype.entries) s.pairs), div-add-mod' (length fw) v.etype.entries, whole)
+module _ (w : View) (fw fd : List ℕ) (s : ShapesReady w fw fd) (whole : length fw % w.numbers.etype.entries ≡ 0) where
+  instances_all : w.numbers.filetype.instances * w.numbers.etype.entries ≡ length fw
+  instances_all = omega (arith, ap (λ (z : ℕ). z * w.numbers.etype.entries) (s.groups ∙ ap (λ (z : ℕ). z / w.numbers.etype.entries) s.pairs), div-add-mod' (length fw) w.numbers.etype.entries, whole)
 
-  instances_some : 0 < v.filetype.instances
-  instances_some = ⊎_elim (λ z. absurd (omega (arith, s.some, instances_all, ap (λ (x : ℕ). x * v.etype.entries) z, zero-mul v.etype.entries))) (λ p. p) (eq-zero-or-pos v.filetype.instances)
+  instances_some : 0 < w.numbers.filetype.instances
+  instances_some = ⊎_elim (λ z. absurd (omega (arith, s.some, instances_all, ap (λ (x : ℕ). x * w.numbers.etype.entries) z, zero-mul w.numbers.etype.entries))) (λ p. p) (eq-zero-or-pos w.numbers.filetype.instances)
 
-  pub tiles_ready : TilesReady v fw fd
+  pub tiles_ready : TilesReady w.numbers fw fd
   tiles_ready = record {
     some = instances_some;
     few = s.few;
@@ -147,7 +145,7 @@ module _ (w : View) (fw fd : List ℕ) (mode : ℕ) (r : Fault) where
   unfolding groups_fault groups_refusal groups_names tile_names
   not_whole h q = fault_by_law (groups_names w fw fd) 17 _ Nothing r q refl (check_no _ 17 _ 17 (ne_eqb _ 0 h) refl)
 
-  module _ (whole : length fw % w.numbers.etype.entries ≡ 0) (f : GroupFault) (e : f ≡ first_group_fault w.widths w.displacements w.numbers.etype.entries fw fd) where
+  module _ (whole : length fw % w.numbers.etype.entries ≡ 0) (f : GroupNumbers) (e : f ≡ first_group_fault w.widths w.displacements w.numbers.etype.entries fw fd) where
     -- the two tests of the deciding group
     abbrev matched : Bool
     matched = group_matches_at w.widths w.displacements w.numbers.etype.entries fw fd (deciding w.widths w.displacements w.numbers.etype.entries fw fd)
@@ -155,25 +153,25 @@ module _ (w : View) (fw fd : List ℕ) (mode : ℕ) (r : Fault) where
     abbrev shifted : Bool
     shifted = origin_at w.widths w.displacements w.numbers.etype.entries fw fd (deciding w.widths w.displacements w.numbers.etype.entries fw fd)
 
-    number_is : f.0 ≡ check matched 18 (check shifted 19 0)
+    number_is : f.refusal ≡ check matched 18 (check shifted 19 0)
     unfolding first_group_fault
-    number_is = ap (λ x. x.0) e
+    number_is = ap (λ x. x.refusal) e
 
-    module _ (q : r ≡ fault_of f.0 (FiletypeEntry f.1)) where
+    module _ (q : r ≡ fault_of f.refusal (FiletypeEntry f.entry)) where
       -- 18, or 19 if the group matches
       by_18 : matched ≡ false → r ≡ groups_fault w fw fd mode
       unfolding groups_fault groups_refusal groups_names
       by_18 a =
           let number = number_is ∙ sym (check_no matched 18 (check shifted 19 0) 18 a refl) in
-          fault_by_law (groups_names w fw fd) 18 _ _ r (q ∙ ap (λ (n : ℕ). fault_of n (FiletypeEntry f.1)) number) (ap (λ x. FiletypeEntry x.1) e) (check_yes _ 17 _ 18 (eq-eqb _ 0 whole) (check_no _ 18 _ 18 a refl))
+          fault_by_law (groups_names w fw fd) 18 _ _ r (q ∙ ap (λ (n : ℕ). fault_of n (FiletypeEntry f.entry)) number) (ap (λ x. FiletypeEntry x.entry) e) (check_yes _ 17 _ 18 (eq-eqb _ 0 whole) (check_no _ 18 _ 18 a refl))
 
       by_19 : matched ≡ true → shifted ≡ false → r ≡ groups_fault w fw fd mode
       unfolding groups_fault groups_refusal groups_names
       by_19 a b =
           let number = number_is ∙ sym (check_yes matched 18 (check shifted 19 0) 19 a (check_no shifted 19 0 19 b refl)) in
-          fault_by_law (groups_names w fw fd) 19 _ _ r (q ∙ ap (λ (n : ℕ). fault_of n (FiletypeEntry f.1)) number) (ap (λ x. FiletypeEntry x.1) e) (check_yes _ 17 _ 19 (eq-eqb _ 0 whole) (check_yes _ 18 _ 19 a (check_no _ 19 _ 19 b refl)))
+          fault_by_law (groups_names w fw fd) 19 _ _ r (q ∙ ap (λ (n : ℕ). fault_of n (FiletypeEntry f.entry)) number) (ap (λ x. FiletypeEntry x.entry) e) (check_yes _ 17 _ 19 (eq-eqb _ 0 whole) (check_yes _ 18 _ 19 a (check_no _ 19 _ 19 b refl)))
 
-      pub group_refused : (f.0 ≡ 0 → ⊥) → r ≡ groups_fault w fw fd mode
+      pub group_refused : (f.refusal ≡ 0 → ⊥) → r ≡ groups_fault w fw fd mode
       group_refused z = cases matched shifted refl refl
         where
           cases : (a b : Bool) → matched ≡ a → shifted ≡ b → r ≡ groups_fault w fw fd mode
@@ -189,7 +187,7 @@ module _ (w : View) (fw fd : List ℕ) (mode : ℕ) (r : Fault) where
         let g = fault_by (groups_names w fw fd) in
         check_step f g _ _ 9 _ _ refl (λ z. refl) (λ z. check_step f g _ _ 10 _ _ refl (λ y. refl) (λ y. refl))
 
-    pub groups_passed : f.0 ≡ 0 → r ≡ tiles_fault mode w.numbers w.origins fw fd → r ≡ groups_fault w fw fd mode
+    pub groups_passed : f.refusal ≡ 0 → r ≡ tiles_fault mode w.numbers w.origins fw fd → r ≡ groups_fault w fw fd mode
     unfolding groups_fault groups_refusal tiles_fault
     groups_passed z q =
         let a = check_inv matched 18 (check shifted 19 0) (lit< tt) (sym number_is ∙ z) in
@@ -214,9 +212,10 @@ module _ (w : View) (fw fd : List ℕ) (mode : ℕ) (r : Fault) where
   unfolding shapes_fault shapes_refusal groups_fault
   order_passed a b q = q ∙ groups_name ∙ ap (fault_by (shape_names w fw fd)) (check_yes _ 7 _ _ (also_true a b) refl)
 
-  -- number 0 names nothing
-  pub none_named : r ≡ shapes_fault w fw fd mode → r.refusal ≡ 0 → fault_of 0 Nothing ≡ shapes_fault w fw fd mode
-  unfolding shapes_fault fault_by shape_names groups_names tile_names
-  none_named q z =
-      let n : shapes_refusal w fw fd mode ≡ 0 = sym (ap (λ x. x.refusal) q) ∙ z in
-      ap (λ (k : ℕ). fault_of k (shape_names w fw fd k)) (sym n)
+-- ---- what the check looks among at the goals of each function
+
+pub ruleset tiles = (hole_begins, inner_hole, final_hole, overlap_unasked, tiles_apart, overlap_found, overlap_none)
+
+pub ruleset groups = (tiles_ready, not_whole, group_refused, groups_passed)
+
+pub ruleset orders = (etype_falls, etype_names, filetype_falls, filetype_names, etype_ordered, filetype_ordered, order_fails, order_passed)

@@ -1,15 +1,14 @@
 -- Need not be believed. What acceptance answers, and what the functions of this crate test, part by part: the contract of `accept` is `AcceptedAs`, which the parts make up, and the claim `ViewSet` has the property of a set.
-use Rattle.std.specs.Prelude.{ℕ, ◌+◌, ◌-◌, ◌*◌, ◌/◌, ◌%◌, ◌≤◌, ◌<◌, Bool, true, cond, not, List, ◌≡◌, ltb, eqb, length}
+use Rattle.std.specs.Prelude.{ℕ, ◌+◌, ◌-◌, ◌*◌, ◌/◌, ◌%◌, ◌≤◌, ◌<◌, Bool, true, cond, not, Result, Ok, Err, List, ◌≡◌, ltb, eqb, length}
 use Rattle.laws.specs.Checks.{granted, also, either, check}
 use Rattle.laws.specs.Search.{least_false, all}
 use Rattle.laws.specs.Lists.{nth}
-use Rattle.view.specs.Parts.{EntriesValid, record_of, named_by, fault_of, fault_by, hole_names, entry_clear, default_view, max_etype_entries, max_filetype_entries, max_instances, max_entry_end, max_extent, in_order, ordered, holes_fit, entry_end}
+use Rattle.view.specs.Parts.{EntriesValid, record_of, named_by, Fault, fault_of, fault_by, hole_names, entry_clear, default_view, max_etype_entries, max_filetype_entries, max_instances, max_entry_end, max_extent, in_order, ordered, holes_fit, entry_end, refusal_number}
 use Rattle.view.specs.Limits.{etype_entries_allowed, filetype_entries_allowed, extent_allowed, displacement_allowed}
 use Rattle.view.specs.Modes.{allows_writing}
 use Rattle.view.specs.Acceptance.{view_refusal, set_refusal}
 use Rattle.view.specs.Rules.{entries_allowed}
 use Rattle.view.specs.Types.{PaperView, paper}
-use Rattle.view.specs.declared.Fault.{Fault}
 use Rattle.view.specs.declared.Named.{Named}
 use Rattle.view.specs.declared.Named.TheVariants.{Nothing, EtypeEntry, FiletypeEntry}
 use Rattle.view.specs.declared.Numbers.{Numbers}
@@ -18,7 +17,18 @@ use Rattle.rule_entries.specs.Parts.{apart_in, ListsReady}
 use Rattle.rule_overlap.specs.Parts.{EntriesReady}
 use Rattle.rule_instances.specs.Parts.{hole_fits}
 use Rattle.rule_groups.specs.Parts.{group_matches_at, origin_at, deciding, first_group_fault}
-use Rattle.rule_set.specs.declared.Accepted.{Accepted}
+use Rattle.view.specs.declared.Refused.{Refused}
+
+-- what acceptance answers: the refusal number, 0 if granted, what it names, and the view
+pub record Accepted : Type 0 where
+  pub refusal : ℕ
+  pub named : Named
+  pub view : View
+
+-- the answer of a result; the view is the default one if refused
+unfoldable pub accepted_in : Result View Refused → Accepted
+accepted_in (Ok v) = record { refusal = 0; named = Nothing; view = v }
+accepted_in (Err r) = record { refusal = refusal_number r.refusal; named = r.named; view = default_view }
 
 -- the refusal number, what it names, and the view; the default view if refused
 unfoldable pub accept_answer : ℕ → List ℕ → PaperView → Accepted
@@ -99,8 +109,8 @@ module _ (w : View) (fw fd : List ℕ) where
   unfoldable pub groups_names : ℕ → Named
   groups_names n =
       let group = first_group_fault w.widths w.displacements w.numbers.etype.entries fw fd in
-      cond (eqb n 18) (FiletypeEntry group.1)
-      (cond (eqb n 19) (FiletypeEntry group.1)
+      cond (eqb n 18) (FiletypeEntry group.entry)
+      (cond (eqb n 19) (FiletypeEntry group.entry)
       (tile_names w.numbers w.origins fw fd n))
 
   unfoldable pub groups_fault : ℕ → Fault

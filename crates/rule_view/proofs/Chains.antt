@@ -1,6 +1,6 @@
 -- The tests of this crate: the etype, the filetype and overlap.
-use Rattle.laws.proofs.Prelude.{ℕ, ◌+◌, ◌-◌, ◌*◌, ◌≤◌, ◌<◌, ◌≡◌, sym, ap, ◌∙◌, Bool, true, false, not, List, arith, mul-le-mul, length, get_or, take, get_or-take, length-take-le, w64, Fits, leb-true, all, nth, also_inv, within_inv, unflag_true, unflag_false, all_at, all_same, greatest_least}
-use Rattle.view.specs.declared.Numbers.{Numbers}
+use Rattle.laws.proofs.Prelude.{ℕ, ◌+◌, ◌-◌, ◌*◌, ◌≤◌, ◌<◌, ◌≡◌, ◌∙◌, Bool, true, List, arith, mul-le-mul, length, get_or, take, get_or-take, length-take-le, w64, Fits, leb-true, all, nth, also_inv, within_inv, all_at, all_same, greatest_least}
+use Rattle.view.specs.declared.View.{View}
 use Rattle.view.specs.Parts.{ordered, entry_end, EntriesValid, reach_of}
 use Rattle.view.proofs.Accepted.{width_small}
 use Rattle.rule_limits.specs.Parts.{entry_fits}
@@ -18,46 +18,46 @@ ordered_prefix ds n t h l =
     h ∙ rw (length-take-le n ds l)
     (all_same _ _ (n - 1) (λ i b. rw (get_or-take n ds i 0 (omega arith), get_or-take n ds (i + 1) 0 (omega arith))))
 
-module _ (v : Numbers) (ws ds : List ℕ) (h : etype_accepted v.etype ws ds ≡ true) where
-  counts : (1 ≤ v.etype.entries) × (v.etype.entries ≤ 8)
+module _ (v : View) (h : etype_accepted v ≡ true) where
+  counts : (1 ≤ v.numbers.etype.entries) × (v.numbers.etype.entries ≤ 8)
   unfolding etype_accepted
-  counts = within_inv 1 8 v.etype.entries (also_inv _ _ h).0
+  counts = within_inv 1 8 v.numbers.etype.entries (also_inv _ _ h).0
 
-  extents : (1 ≤ v.etype.extent) × (v.etype.extent ≤ 1048576)
+  extents : (1 ≤ v.numbers.etype.extent) × (v.numbers.etype.extent ≤ 1048576)
   unfolding etype_accepted
-  extents = within_inv 1 1048576 v.etype.extent (also_inv _ _ (also_inv _ _ h).1).0
+  extents = within_inv 1 1048576 v.numbers.etype.extent (also_inv _ _ (also_inv _ _ h).1).0
 
-  all_fit : all (entry_fits_at ws ds) v.etype.entries ≡ true
+  all_fit : all (entry_fits_at v.widths v.displacements) v.numbers.etype.entries ≡ true
   unfolding etype_accepted
   all_fit = (also_inv _ _ (also_inv _ _ (also_inv _ _ h).1).1).0
 
-  entry_end_law : (i : ℕ) → i < v.etype.entries → entry_end ws ds i ≤ 1048576
+  entry_end_law : (i : ℕ) → i < v.numbers.etype.entries → entry_end v.widths v.displacements i ≤ 1048576
   unfolding entry_fits_at entry_fits
-  entry_end_law i l = leb-true _ _ (also_inv _ _ (all_at (entry_fits_at ws ds) v.etype.entries all_fit i l)).1
+  entry_end_law i l = leb-true _ _ (also_inv _ _ (all_at (entry_fits_at v.widths v.displacements) v.numbers.etype.entries all_fit i l)).1
 
-  pub etype_entries : EntriesValid v.etype.entries ws ds
+  pub etype_entries : EntriesValid v.numbers.etype.entries v.widths v.displacements
   etype_entries = record { some = omega (arith, counts.0); few = counts.1; ends = entry_end_law }
 
-  pub etype_extent : 0 < v.etype.extent
+  pub etype_extent : 0 < v.numbers.etype.extent
   etype_extent = omega (arith, extents.0)
 
-  pub etype_some : 1 ≤ v.etype.entries
+  pub etype_some : 1 ≤ v.numbers.etype.entries
   etype_some = counts.0
 
-  pub entries_fit_law : (k : ℕ) → k ≤ 64 → Fits w64 (k * v.etype.entries)
+  pub entries_fit_law : (k : ℕ) → k ≤ 64 → Fits w64 (k * v.numbers.etype.entries)
   entries_fit_law k l = record { fits = omega (arith, mul-le-mul l counts.1) }
 
-  pub reach_small : (r : ℕ) → r ≡ reach_of ws ds v.etype.entries → r ≤ 1048576
+  pub reach_small : (r : ℕ) → r ≡ reach_of v.widths v.displacements v.numbers.etype.entries → r ≤ 1048576
   unfolding reach_of
-  reach_small r q = rw q (greatest_least (entry_end ws ds) v.etype.entries 1048576 entry_end_law)
+  reach_small r q = rw q (greatest_least (entry_end v.widths v.displacements) v.numbers.etype.entries 1048576 entry_end_law)
 
-  pub last_in : v.etype.entries - 1 < 8
+  pub last_in : v.numbers.etype.entries - 1 < 8
   last_in = omega (arith, counts.0, counts.1)
 
-  pub last_small : get_or ds (v.etype.entries - 1) 0 ≤ 1048576
-  last_small = omega (arith, entry_end_law (v.etype.entries - 1) (omega (arith, counts.0)))
+  pub last_small : get_or v.displacements (v.numbers.etype.entries - 1) 0 ≤ 1048576
+  last_small = omega (arith, entry_end_law (v.numbers.etype.entries - 1) (omega (arith, counts.0)))
 
-  pub first_small : get_or ds 0 0 ≤ 1048576
+  pub first_small : get_or v.displacements 0 0 ≤ 1048576
   first_small = omega (arith, entry_end_law 0 (omega (arith, counts.0)))
 
 -- ---- the filetype
@@ -70,47 +70,10 @@ module _ (k : ℕ) (ps : List ℕ) (reach : ℕ) (all_reach : all (reach_at ps r
   pub reach_origins : 1 ≤ k → k ≤ 64 → OriginsValid k ps
   reach_origins a b = record { some = omega arith; few = b; small = origin_small }
 
--- the flag of a call whose reach is the etype's
-pub reach_flag : (k : ℕ) (ps : List ℕ) (n : ℕ) (ws ds : List ℕ) (r : ℕ) (t : Bool) → t ≡ all (reach_at ps r) k → r ≡ reach_of ws ds n → not t ≡ false → all (reach_at ps (reach_of ws ds n)) k ≡ true
-reach_flag k ps n ws ds r t h q m = ap (λ (x : ℕ). all (reach_at ps x) k) (sym q) ∙ unflag_true t _ h m
-
-pub reach_no_flag : (k : ℕ) (ps : List ℕ) (n : ℕ) (ws ds : List ℕ) (r : ℕ) (t : Bool) → t ≡ all (reach_at ps r) k → r ≡ reach_of ws ds n → not t ≡ true → all (reach_at ps (reach_of ws ds n)) k ≡ false
-reach_no_flag k ps n ws ds r t h q m = ap (λ (x : ℕ). all (reach_at ps x) k) (sym q) ∙ unflag_false t _ h m
-
-pub origins_flag : (k : ℕ) (ps : List ℕ) (r : ℕ) (t : Bool) → t ≡ all (reach_at ps r) k → not t ≡ false → 1 ≤ k → k ≤ 64 → OriginsValid k ps
-origins_flag k ps r t h n a b = reach_origins k ps r (unflag_true t _ h n) a b
-
--- ---- overlap
-
-module _ (v : Numbers) (ws ds ps : List ℕ) (s : ShapeValid v ws ds ps) where
-  last_entry : v.etype.entries - 1 < v.etype.entries
-  last_entry = omega (arith, s.entries.some)
-
-  last_end : get_or ds (v.etype.entries - 1) 0 + get_or ws (v.etype.entries - 1) 0 ≤ 1048576
-  last_end = s.entries.ends (v.etype.entries - 1) last_entry
-
-  first_begin : get_or ds 0 0 ≤ 1048576
-  first_begin = omega (arith, s.entries.ends 0 s.entries.some)
-
-  pub shape_end : Fits w64 (get_or ds (v.etype.entries - 1) 0 + get_or ws (v.etype.entries - 1) 0)
-  shape_end = record { fits = omega (arith, last_end) }
-
-  pub shape_step : OriginsValid v.filetype.instances ps × (get_or ds (v.etype.entries - 1) 0 + get_or ws (v.etype.entries - 1) 0 ≤ 1048576) × (get_or ds 0 0 ≤ 1048576)
-  shape_step = (s.origins, last_end, first_begin)
-
-  pub shape_tile : Fits w64 (get_or ps (v.filetype.instances - 1) 0 + (get_or ds (v.etype.entries - 1) 0 + get_or ws (v.etype.entries - 1) 0))
-  shape_tile = record { fits = omega (arith, last_end, s.origins.small (v.filetype.instances - 1) (omega (arith, s.origins.some))) }
-
-  pub shape_first : Fits w64 (get_or ps 0 0 + get_or ds 0 0)
-  shape_first = record { fits = omega (arith, first_begin, s.origins.small 0 s.origins.some) }
-
-  pub shape_next : Fits w64 (get_or ps 0 0 + get_or ds 0 0 + v.filetype.extent)
-  shape_next = record { fits = omega (arith, first_begin, s.origins.small 0 s.origins.some, s.extent) }
-
 -- ---- what the tests of the etype and the filetype leave for that of overlap
 
-module _ (v : Numbers) (ws ds ps : List ℕ) where
-  shape_valid : etype_accepted v.etype ws ds ≡ true → filetype_accepted v ws ds ps ≡ true → ShapeValid v ws ds ps
+module _ (v : View) where
+  pub shape_valid : etype_accepted v ≡ true → filetype_accepted v ≡ true → ShapeValid v
   unfolding filetype_accepted
   shape_valid h g =
       let a = also_inv _ _ g in
@@ -118,13 +81,10 @@ module _ (v : Numbers) (ws ds ps : List ℕ) where
       let c = also_inv _ _ b.1 in
       let d = also_inv _ _ c.1 in
       let m = within_inv 1 64 _ a.0 in
-      record { entries = etype_entries v ws ds h; origins = reach_origins _ ps _ d.0 m.0 m.1; extent = (within_inv 1 1048576 _ c.0).1 }
-
-  pub shape_flags : (t u : Bool) → t ≡ etype_accepted v.etype ws ds → not t ≡ false → u ≡ filetype_accepted v ws ds ps → not u ≡ false → ShapeValid v ws ds ps
-  shape_flags t u a b c d = shape_valid (unflag_true t _ a b) (unflag_true u _ c d)
+      record { entries = etype_entries v h; origins = reach_origins _ v.origins _ d.0 m.0 m.1; extent = (within_inv 1 1048576 _ c.0).1 }
 
   -- and for the entries' keys
-  groups_ready : etype_accepted v.etype ws ds ≡ true → filetype_accepted v ws ds ps ≡ true → RecordReady v ws ds ps
+  pub groups_ready : etype_accepted v ≡ true → filetype_accepted v ≡ true → RecordReady v
   unfolding etype_accepted filetype_accepted entry_fits_at entry_fits
   groups_ready h g =
       let s = shape_valid h g in
@@ -141,9 +101,6 @@ module _ (v : Numbers) (ws ds ps : List ℕ) where
         some_extent = omega (arith, (within_inv 1 1048576 _ c.0).0);
         extent = s.extent;
         displacements = λ i l. omega (arith, s.entries.ends i l);
-        widths = λ i l. let w = width_small (nth ws i) (also_inv _ _ (all_at (entry_fits_at ws ds) v.etype.entries f i l)).0 in (omega (arith, w.0), omega (arith, w.1));
+        widths = λ i l. let w = width_small (nth v.widths i) (also_inv _ _ (all_at (entry_fits_at v.widths v.displacements) v.numbers.etype.entries f i l)).0 in (omega (arith, w.0), omega (arith, w.1));
         origins = s.origins.small;
       }
-
-  pub groups_flags : (t u : Bool) → t ≡ etype_accepted v.etype ws ds → not t ≡ false → u ≡ filetype_accepted v ws ds ps → not u ≡ false → RecordReady v ws ds ps
-  groups_flags t u a b c d = groups_ready (unflag_true t _ a b) (unflag_true u _ c d)

@@ -3,7 +3,7 @@ use Rattle.laws.proofs.Prelude.{ℕ, ◌+◌, ◌-◌, ◌*◌, ◌/◌, ◌%◌
 use Rattle.view.specs.declared.View.{View}
 use Rattle.view.specs.Limits.{width_allowed, entry_displacement_allowed}
 use Rattle.view.specs.Types.{paper, entries, width_at, displacement_at}
-use Rattle.view.specs.Rules.{entry_allowed, entries_allowed, type_ordered, instances, origin, view_holes_fit, IsBuilt}
+use Rattle.view.specs.Rules.{entry_allowed, entries_allowed, type_ordered, origin, view_holes_fit, IsBuilt}
 use Rattle.view.specs.Parts.{ordered, holes_fit, built, entry_end, reach_of, next_begins, entry_apart, apart}
 use Rattle.view.proofs.Paper.{paper_entries, paper_file_entries, paper_width, paper_displacement, paper_file_width, paper_file_displacement_read, paper_file_displacement, paper_extent, paper_file_extent, paper_instances, paper_origin}
 use Rattle.view.proofs.Accepted.{type_entry, width_small, holes_are}
@@ -148,14 +148,14 @@ module _ (v : View) (some : 0 < v.numbers.etype.entries) (more : 0 < v.numbers.f
       let t = rw last_entry at (tile_begins (v.numbers.filetype.instances * v.numbers.etype.entries - 1) l (omega arith)) in
       omega arith
 
-  apart_held : apart (paper v) ≡ true → shape_apart v.numbers v.widths v.displacements v.origins ≡ true
+  apart_held : apart (paper v) ≡ true → shape_apart v ≡ true
   unfolding shape_apart apart_at origins_step step_at ends
   apart_held h =
       also_true (all_intro _ (v.numbers.etype.entries - 1) (λ e l. le-leb _ _ (inside (nth v.origins) ends (nth v.displacements) v.numbers.etype.entries v.numbers.filetype.instances some more (apart_linked h) e l)))
       (also_true (all_intro _ (v.numbers.filetype.instances - 1) (λ g l. le-leb _ _ (across (nth v.origins) ends (nth v.displacements) v.numbers.etype.entries v.numbers.filetype.instances some more (apart_linked h) g l)))
       (le-leb _ _ (tile_end h)))
 
-  module _ (h : shape_apart v.numbers v.widths v.displacements v.origins ≡ true) where
+  module _ (h : shape_apart v ≡ true) where
     entries_held : (e : ℕ) → e < v.numbers.etype.entries - 1 → ends e ≤ nth v.displacements (e + 1)
     unfolding shape_apart apart_at ends
     entries_held e l = leb-true _ _ (all_at _ (v.numbers.etype.entries - 1) (also_inv _ _ h).0 e l)
@@ -187,5 +187,5 @@ module _ (v : View) (some : 0 < v.numbers.etype.entries) (more : 0 < v.numbers.f
     unfolding apart entry_apart
     held_apart = rw (paper_file_entries v) (all_intro _ (v.numbers.filetype.instances * v.numbers.etype.entries) (λ i l. le-leb _ _ (⊎_elim (λ b. entry_before i (omega arith)) (λ b. entry_last i l b) (lt_or_le (i + 1) (v.numbers.filetype.instances * v.numbers.etype.entries)))))
 
-  pub apart_same : apart (paper v) ≡ shape_apart v.numbers v.widths v.displacements v.origins
+  pub apart_same : apart (paper v) ≡ shape_apart v
   apart_same = iff _ _ apart_held held_apart

@@ -3,7 +3,7 @@ use Rattle.laws.proofs.Prelude.{ℕ, ◌+◌, ◌-◌, ◌*◌, ◌/◌, ◌%◌
 use Rattle.view.specs.declared.View.{View}
 use Rattle.view.specs.Limits.{etype_entries_allowed, entry_displacement_allowed, extent_allowed, displacement_allowed}
 use Rattle.view.specs.Types.{paper, entries}
-use Rattle.view.specs.Rules.{paired, entry_allowed, entries_allowed, type_ordered, instances}
+use Rattle.view.specs.Rules.{paired, entry_allowed, entries_allowed, type_ordered}
 use Rattle.view.specs.Parts.{ordered}
 use Rattle.view.proofs.Paper.{paper_entries, paper_width, paper_displacement_read, paper_displacement}
 use Rattle.rule_limits.specs.Parts.{entry_fits}

@@ -1,9 +1,9 @@
 -- The tests on the record make up document 01's rules on the view that it stands for.
-use Rattle.laws.proofs.Prelude.{ℕ, ◌*◌, ◌≤◌, ◌<◌, ◌≡◌, sym, ap, ◌∙◌, Bool, true, false, not, ⊎_elim, arith, mul-le-mul_right, le_of_mul-le-mul_right, eq-zero-or-pos, zero-mul, leb, le-leb, leb-true, also, either, within, iff, also_inv, also_true, within_inv, within_yes, run_below}
+use Rattle.laws.proofs.Prelude.{ℕ, ◌*◌, ◌≤◌, ◌<◌, ◌≡◌, sym, ap, ◌∙◌, Bool, true, not, ⊎_elim, arith, mul-le-mul_right, le_of_mul-le-mul_right, eq-zero-or-pos, zero-mul, leb, le-leb, leb-true, also, either, within, iff, also_inv, also_true, within_inv, within_yes, run_below}
 use Rattle.view.specs.declared.View.{View}
 use Rattle.view.specs.Limits.{filetype_entries_allowed, extent_allowed}
 use Rattle.view.specs.Types.{paper, entries}
-use Rattle.view.specs.Rules.{instances, entries_allowed}
+use Rattle.view.specs.Rules.{entries_allowed}
 use Rattle.view.specs.Parts.{clear}
 use Rattle.view.specs.Acceptance.{accepted}
 use Rattle.view.specs.Modes.{allows_writing}
@@ -38,7 +38,7 @@ file_counts n k some = iff _ _ there back
 
 -- ---- overlap: tiles in order, or no bytes that clash
 
-overlap_same : (v : View) → 0 < v.numbers.etype.entries → 0 < v.numbers.filetype.instances → extent_allowed (paper v).filetype.extent ≡ true → entries_allowed (paper v).filetype ≡ true → either (shape_apart v.numbers v.widths v.displacements v.origins) (clear (paper v)) ≡ clear (paper v)
+overlap_same : (v : View) → 0 < v.numbers.etype.entries → 0 < v.numbers.filetype.instances → extent_allowed (paper v).filetype.extent ≡ true → entries_allowed (paper v).filetype ≡ true → either (shape_apart v) (clear (paper v)) ≡ clear (paper v)
 overlap_same v some more x a =
     let n : 0 < entries (paper v).filetype = rw (paper_file_entries v) (omega (arith, run_below v.numbers.filetype.instances v.numbers.etype.entries 0 0 more some)) in
     ap (λ (z : Bool). either z (clear (paper v))) (sym (apart_same v some more)) ∙ apart_or_clear (paper v) (spaced (paper v) x a) n
@@ -97,26 +97,8 @@ module _ (mode : ℕ) (v : View) where
       (also_true (sym (order_step v some more o) ∙ r.filetype_ordered) (sym (view_holes_same v some more) ∙ r.holes))))))
       (ap (λ (x : Bool). either (not (allows_writing mode)) x) (overlap_same v some more r.filetype_extent r.filetype_allowed) ∙ r.overlap)))
 
-  pub held_accepted : view_accepted mode v ≡ accepted mode (paper v)
+  held_accepted : view_accepted mode v ≡ accepted mode (paper v)
   held_accepted = iff _ _ record_accepted accepted_record
 
   pub keeps_by : (t : Bool) → t ≡ view_accepted mode v → t ≡ accepted mode (paper v)
   keeps_by t h = h ∙ held_accepted
-
--- overlap is asked only where the mode allows writing
-pub no_writing : (w t a : Bool) → t ≡ w → not t ≡ true → true ≡ either (not w) a
-unfolding either
-no_writing w t a e h = let q : not w ≡ true = ap not (sym e) ∙ h in rw q
-
-module _ (w t x y : Bool) (e : t ≡ w) (h : not t ≡ false) (z : Bool) (q : z ≡ x) where
-  asked : not w ≡ false
-  asked = ap not (sym e) ∙ h
-
-  -- and there tiles in order pass, and others if no bytes clash
-  pub in_order_law : z ≡ true → true ≡ either (not w) (either x y)
-  unfolding either
-  in_order_law a = let p = sym q ∙ a in rw (asked, p)
-
-  pub out_of_order : z ≡ false → (u : Bool) → u ≡ y → u ≡ either (not w) (either x y)
-  unfolding either
-  out_of_order a u b = let p = sym q ∙ a in rw (asked, p) b

@@ -1,7 +1,9 @@
 //! The record of a set, in a trace (docs/trace.md) and for the benchmark: the view that its body describes, set through a handle.
+//! Its buffers are arrays of the greatest length: no library here allocates.
 #![tactic(auto)]
 
-ghost use Rattle.std.specs.Prelude.{◌≡◌, ◌≤◌, length, drop};
+ghost use Rattle.std.specs.Prelude.{ℕ, ◌≡◌, ◌+◌, ◌≤◌, ◌<◌, length, drop};
+ghost use Rattle.laws.specs.Lists.{nth};
 ghost use Rattle.file.specs.Parts.{set_view_answer};
 ghost use Rattle.set_record.specs.Sets.{list_length, body_view, view_in, lists_end, representation_in};
 
@@ -14,25 +16,30 @@ const FIRST_NUMBERS: usize = 8;
 const LONGEST_LIST: u64 = 8192;
 
 // The length of the list that number `i` of a body counts.
+#[tactic(auto, unfolding(crate::specs::Sets::list_length))]
 fn list_length(body: &[u8], i: usize) -> usize
     ensures { (result ≡ list_length body.now i) × (result ≤ 8192) }
 {
-    let n = tagged_fields::number(body, i);
-    laws::smaller(n, LONGEST_LIST) as usize
+    tagged_fields::number(body, i).min(LONGEST_LIST) as usize
+}
+
+// The lengths of the four lists of a body, counted at its numbers 4 to 7.
+fn list_lengths(body: &[u8]) -> [usize; 4]
+    ensures { (k : ℕ) → k < 4 → (nth result k ≡ list_length body.now (4 + k)) × (nth result k ≤ 8192) }
+{
+    [4, 5, 6, 7].map(|i| list_length(body, i))
 }
 
 // Where the lists of a body end, in bytes: past the end of a body that is too short for them.
 pub fn lists_end(body: &[u8]) -> usize
     ensures { result ≡ lists_end body.now }
 {
-    let n1 = list_length(body, 4);
-    let n2 = list_length(body, 5);
-    let n3 = list_length(body, 6);
-    let n4 = list_length(body, 7);
+    let [n1, n2, n3, n4] = list_lengths(body);
     tagged_fields::NUMBER_BYTES * (FIRST_NUMBERS + n1 + n2 + n3 + n4)
 }
 
 // Sets the view of four lists; the representation begins at byte `rest` of the body.
+// The lists come one by one, as `Handle::set_view` has them.
 fn set_lists(
     handle: Handle,
     body: &[u8],
@@ -55,10 +62,7 @@ fn set_lists(
 pub fn set_view(handle: Handle, body: &[u8]) -> SetViewAnswer
     ensures { result ≡ set_view_answer handle (representation_in body.now) (view_in body.now) }
 {
-    let n1 = list_length(body, 4);
-    let n2 = list_length(body, 5);
-    let n3 = list_length(body, 6);
-    let n4 = list_length(body, 7);
+    let [n1, n2, n3, n4] = list_lengths(body);
     let second = FIRST_NUMBERS + n1;
     let third = second + n2;
     let fourth = third + n3;

@@ -1,175 +1,142 @@
 //! Shows views as a planner would look at them: the refusal of a set in words, or where the first offsets begin, and end of file.
 #![tactic(auto)]
 
+use show_words::{Datatype, Refusal, SetRefusal};
 use std::io;
 use std::io::Write;
-use view::{Numbers, PerEntry, PerInstance, View};
+use view::View;
 
+// How many offsets of a view are shown.
 const OFFSETS: u64 = 6;
 
 // Where the first offsets of a view begin, and end of file at `size`, on one line.
-fn show_places<'a>(
-    out: &mut impl Write,
-    v: Numbers,
-    widths: &'a PerEntry,
-    displacements: &'a PerEntry,
-    origins: &'a PerInstance,
-    mode: u64,
-    size: u64,
-) -> io::Result<()> {
-    if !rule_view::is_accepted(mode, v, widths, displacements, origins) {
+fn show_places(out: &mut impl Write, view: &View, mode: u64, size: u64) -> io::Result<()> {
+    if !rule_view::is_accepted(mode, view) {
         return writeln!(out, "refusal 1");
     }
     write!(out, "places")?;
     for o in 0..OFFSETS {
-        let place = view_place::place_of(v, origins, view::to_offset(o));
+        let place = view_place::place_of(view, view::to_offset(o));
         write!(out, " {}", place.0)?;
     }
     if size <= View::MAX_FILE_SIZE {
-        let end = view_place::end_of(v, origins, size);
+        let end = view_place::end_of(view, size);
         write!(out, "; end at size {size} is {}", view::natural(end.0))?;
     }
     writeln!(out)
 }
 
-// What is asked of a view: the mode, where it begins in the file, and the size for end of file.
-#[derive(Clone, Copy)]
-struct Asked {
-    mode: u64,
-    displacement: i64,
-    size: u64,
-}
-
-// Offers a view for a mode, and prints its refusal, or its places. Widths, displacements and extent of the etype (ew, ed, ex) and of the filetype (fw, fd, fx).
+// Offers a view, and prints after a text its refusal, or its places: for a mode, from a byte of the file on, with these types, and end of file at a size.
 fn show_view(
     out: &mut impl Write,
-    ew: &[u64],
-    ed: &[i64],
-    ex: i64,
-    fw: &[u64],
-    fd: &[i64],
-    fx: i64,
-    asked: Asked,
-) -> io::Result<()> {
-    let mode = asked.mode;
-    let r = rule_set::accept(mode, b"native", asked.displacement, ew, ed, ex, fw, fd, fx);
-    write!(out, "mode {mode}: ")?;
-    let named = r.named;
-    show_words::print_refusal(out, r.refusal, named, ew, ed, fw, fd)?;
-    if r.refusal != 0 {
-        return writeln!(out);
-    }
-    write!(out, "; ")?;
-    let v = r.view;
-    show_places(
-        out,
-        v.numbers,
-        &v.widths,
-        &v.displacements,
-        &v.origins,
-        mode,
-        asked.size,
-    )
-}
-
-// A view whose etype is a word: an entry of width 4 at 0, extent 4.
-fn show_word_view(
-    out: &mut impl Write,
-    displacement: i64,
-    ws: &[u64],
-    ds: &[i64],
-    extent: i64,
+    text: &str,
     mode: u64,
+    displacement: i64,
+    etype: Datatype,
+    filetype: Datatype,
     size: u64,
 ) -> io::Result<()> {
-    let asked = Asked {
-        mode: mode,
-        displacement: displacement,
-        size: size,
-    };
-    show_view(out, &[4u64], &[0i64], 4, ws, ds, extent, asked)
-}
-
-// A view from byte 0 on whose etype is a byte, with two bytes in the filetype, for writing.
-fn show_byte_view(out: &mut impl Write, ds: &[i64], extent: i64, size: u64) -> io::Result<()> {
-    let asked = Asked {
-        mode: View::MODE_WRITING,
-        displacement: 0,
-        size: size,
-    };
-    show_view(out, &[1u64], &[0i64], 1, &[1u64, 1], ds, extent, asked)
-}
-
-// A view from byte 0 on that is refused, for reading and writing.
-fn show_refused(
-    out: &mut impl Write,
-    ew: &[u64],
-    ed: &[i64],
-    ex: i64,
-    fw: &[u64],
-    fd: &[i64],
-    fx: i64,
-) -> io::Result<()> {
-    let asked = Asked {
-        mode: View::MODE_BOTH,
-        displacement: 0,
-        size: 0,
-    };
-    show_view(out, ew, ed, ex, fw, fd, fx, asked)
+    let accepted = rule_set::accept(
+        mode,
+        b"native",
+        displacement,
+        etype.widths,
+        etype.displacements,
+        etype.extent,
+        filetype.widths,
+        filetype.displacements,
+        filetype.extent,
+    );
+    write!(out, "{text} mode {mode}: ")?;
+    match accepted {
+        Ok(view) => {
+            write!(out, "{}; ", Refusal(0))?;
+            show_places(out, &view, mode, size)
+        }
+        Err(refused) => {
+            let refusal = SetRefusal {
+                refusal: refused.refusal.number(),
+                named: refused.named,
+                etype,
+                filetype,
+            };
+            writeln!(out, "{refusal}")
+        }
+    }
 }
 
 // Document 01's figures.
 fn figures(out: &mut impl Write) -> io::Result<()> {
-    let one = [4u64];
-    let two = [4u64, 4];
-    write!(out, "P1 (a word at 4 of 12, from byte 100) ")?;
-    show_word_view(out, 100, &one, &[4i64], 12, View::MODE_BOTH, 117)?;
-    write!(out, "P4 (a word at 2 of 12) ")?;
-    show_word_view(out, 0, &one, &[2i64], 12, View::MODE_BOTH, 0)?;
-    write!(out, "P6 (words at 0 and 4 of 4) ")?;
-    show_word_view(out, 0, &two, &[0i64, 4], 4, View::MODE_READING, 8)?;
-    write!(out, "P6 (words at 0 and 4 of 4) ")?;
-    show_word_view(out, 0, &two, &[0i64, 4], 4, View::MODE_WRITING, 8)?;
-    write!(out, "P7 (words at 0 and 8 of 4) ")?;
-    show_word_view(out, 0, &two, &[0i64, 8], 4, View::MODE_READING, 8)?;
-    write!(out, "P12 (bytes at 0 and 3 of 2) ")?;
-    show_byte_view(out, &[0i64, 3], 2, 3)
+    let word = Datatype::WORD;
+    let p1 = Datatype::new(&[4], &[4], 12);
+    let text = "P1 (a word at 4 of 12, from byte 100)";
+    show_view(out, text, View::MODE_BOTH, 100, word, p1, 117)?;
+    let p4 = (word, Datatype::new(&[4], &[2], 12));
+    let p6 = (word, Datatype::new(&[4, 4], &[0, 4], 4));
+    let p7 = (word, Datatype::new(&[4, 4], &[0, 8], 4));
+    let p12 = (Datatype::BYTE, Datatype::new(&[1, 1], &[0, 3], 2));
+    let cases = [
+        ("P4 (a word at 2 of 12)", View::MODE_BOTH, p4, 0),
+        ("P6 (words at 0 and 4 of 4)", View::MODE_READING, p6, 8),
+        ("P6 (words at 0 and 4 of 4)", View::MODE_WRITING, p6, 8),
+        ("P7 (words at 0 and 8 of 4)", View::MODE_READING, p7, 8),
+        ("P12 (bytes at 0 and 3 of 2)", View::MODE_WRITING, p12, 3),
+    ];
+    for (text, mode, (etype, filetype), size) in cases {
+        show_view(out, text, mode, 0, etype, filetype, size)?;
+    }
+    Ok(())
 }
 
 // Views with bytes that clash: a file byte would belong to two offsets.
 fn clashes(out: &mut impl Write) -> io::Result<()> {
-    let word = [4u64];
-    let zero = [0i64];
-    write!(out, "bytes at 0 and 2 of 2, ")?;
-    show_byte_view(out, &[0i64, 2], 2, 3)?;
-    write!(out, "a word at 0 of 2, ")?;
-    show_refused(out, &word, &zero, 4, &word, &zero, 2)?;
-    write!(out, "words at 0, 4, 8 and 12 of 8, ")?;
-    show_refused(out, &word, &zero, 4, &[4u64, 4, 4, 4], &[0i64, 4, 8, 12], 8)
+    let bytes = (Datatype::BYTE, Datatype::new(&[1, 1], &[0, 2], 2));
+    let word = (Datatype::WORD, Datatype::new(&[4], &[0], 2));
+    let four = Datatype::new(&[4, 4, 4, 4], &[0, 4, 8, 12], 8);
+    let words = (Datatype::WORD, four);
+    let cases = [
+        ("bytes at 0 and 2 of 2,", View::MODE_WRITING, bytes),
+        ("a word at 0 of 2,", View::MODE_BOTH, word),
+        ("words at 0, 4, 8 and 12 of 8,", View::MODE_BOTH, words),
+    ];
+    for (text, mode, (etype, filetype)) in cases {
+        show_view(out, text, mode, 0, etype, filetype, 0)?;
+    }
+    Ok(())
 }
 
 // A view for each rule of a set's lists, from 6 on, that no figure above breaks.
 fn other_rules(out: &mut impl Write) -> io::Result<()> {
-    let word = [4u64];
-    let zero = [0i64];
-    let two = [4u64, 4];
-    let pair = [0i64, 4];
-    write!(out, "a word at -4 of 12, ")?;
-    show_refused(out, &word, &zero, 4, &word, &[-4i64], 12)?;
-    write!(out, "words at 4 and 0 of 8, ")?;
-    show_refused(out, &word, &zero, 4, &two, &[4i64, 0], 8)?;
-    write!(
-        out,
-        "words at 0, 4 and 8 of 16, etype words at 0 and 4 of 8, "
-    )?;
-    show_refused(out, &two, &pair, 8, &[4u64, 4, 4], &[0i64, 4, 8], 16)?;
-    write!(
-        out,
-        "words at 0, 4, 8 and 16 of 24, etype words at 0 and 4 of 8, "
-    )?;
-    show_refused(out, &two, &pair, 8, &[4u64, 4, 4, 4], &[0i64, 4, 8, 16], 24)?;
-    write!(out, "a word at 0 of 8, etype a word at 4 of 8, ")?;
-    show_refused(out, &word, &[4i64], 8, &word, &zero, 8)
+    let word = Datatype::WORD;
+    let pair = Datatype::new(&[4, 4], &[0, 4], 8);
+    let high = Datatype::new(&[4], &[4], 8);
+    let cases = [
+        ("a word at -4 of 12,", word, Datatype::new(&[4], &[-4], 12)),
+        (
+            "words at 4 and 0 of 8,",
+            word,
+            Datatype::new(&[4, 4], &[4, 0], 8),
+        ),
+        (
+            "words at 0, 4 and 8 of 16, etype words at 0 and 4 of 8,",
+            pair,
+            Datatype::new(&[4, 4, 4], &[0, 4, 8], 16),
+        ),
+        (
+            "words at 0, 4, 8 and 16 of 24, etype words at 0 and 4 of 8,",
+            pair,
+            Datatype::new(&[4, 4, 4, 4], &[0, 4, 8, 16], 24),
+        ),
+        (
+            "a word at 0 of 8, etype a word at 4 of 8,",
+            high,
+            Datatype::new(&[4], &[0], 8),
+        ),
+    ];
+    for (text, etype, filetype) in cases {
+        show_view(out, text, View::MODE_BOTH, 0, etype, filetype, 0)?;
+    }
+    Ok(())
 }
 
 fn main(rt: HostRuntime) -> io::Result<()> {

@@ -1,170 +1,121 @@
 // A recipe in words: each step as the MPI call that it stands for.
 ghost use Rattle.std.specs.Prelude.{◌<◌};
 
-use std::io;
-use std::io::Write;
+use std::fmt;
 
 // How many numbers a step and an item have.
-pub const STEP_NUMBERS: usize = 6;
+const STEP_NUMBERS: usize = 6;
 
 const ITEM_NUMBERS: usize = 3;
 
-// Prints a text.
-pub fn say(out: &mut impl Write, text: &[u8]) -> io::Result<()> {
-    out.write_all(text)
+// A recipe, a line for each step: a text, the step's number and its call.
+#[derive(Clone, Copy)]
+pub struct Steps<'a> {
+    pub text: &'a str,
+    pub steps: &'a [u64],
+    pub items: &'a [u64],
 }
 
-// Prints a text and a number after it.
-pub fn tell(out: &mut impl Write, text: &[u8], n: u64) -> io::Result<()> {
-    out.write_all(text)?;
-    write!(out, "{n}")
+impl fmt::Display for Steps<'_> {
+    fn fmt<W: fmt::Write>(&self, f: &mut fmt::Formatter<W>) -> fmt::Result {
+        let text = self.text;
+        let (steps, _) = self.steps.as_chunks::<STEP_NUMBERS>();
+        let (items, _) = self.items.as_chunks::<ITEM_NUMBERS>();
+        for (i, numbers) in steps.iter().enumerate() {
+            let call = Call {
+                numbers: *numbers,
+                items,
+            };
+            writeln!(f, "{text} {i}: {call}")?;
+        }
+        Ok(())
+    }
 }
 
-// Prints a signed number of a recipe, which stands there in two's complement.
-fn print_signed(out: &mut impl Write, x: u64) -> io::Result<()> {
-    let number = x.cast_signed();
-    write!(out, "{number}")
+// A step's call: its six numbers, and the items of the recipe. A signed number stands there in two's complement.
+// Kind and source are numbers, as in the lent list, which may hold any.
+#[derive(Clone, Copy)]
+struct Call<'a> {
+    numbers: [u64; STEP_NUMBERS],
+    items: &'a [[u64; ITEM_NUMBERS]],
 }
 
-// Number `i` of a list, 0 past its end.
-fn number(l: &[u64], i: usize) -> u64 {
-    if i < l.len() { l[i] } else { 0 }
+impl fmt::Display for Call<'_> {
+    fn fmt<W: fmt::Write>(&self, f: &mut fmt::Formatter<W>) -> fmt::Result {
+        let [kind, source, name, a, b, c] = self.numbers;
+        let old = Source { source, name };
+        match kind {
+            recipe::CONTIGUOUS => write!(f, "MPI_Type_contiguous({a}, {old})"),
+            recipe::VECTOR => write!(f, "MPI_Type_vector({a}, {b}, {}, {old})", c.cast_signed()),
+            recipe::INDEXED => {
+                let [lengths, displacements, _] = columns(items_of(self.items, a, b));
+                write!(
+                    f,
+                    "MPI_Type_indexed({b}, {lengths}, {displacements}, {old})"
+                )
+            }
+            recipe::SUBARRAY => {
+                let [sizes, subsizes, starts] = columns(items_of(self.items, a, b));
+                write!(
+                    f,
+                    "MPI_Type_create_subarray({b}, {sizes}, {subsizes}, {starts}, MPI_ORDER_C, {old})"
+                )
+            }
+            recipe::RESIZED => write!(f, "MPI_Type_create_resized({old}, 0, {})", a.cast_signed()),
+            _ => write!(f, "no constructor"),
+        }
+    }
+}
+
+// What a step is built of.
+#[derive(Clone, Copy)]
+struct Source {
+    source: u64,
+    name: u64,
+}
+
+impl fmt::Display for Source {
+    fn fmt<W: fmt::Write>(&self, f: &mut fmt::Formatter<W>) -> fmt::Result {
+        let name = self.name;
+        match self.source {
+            recipe::STEP => write!(f, "step {name}"),
+            _ => write!(f, "width {name}"),
+        }
+    }
 }
 
 // The items of a step: `n` of them from item `first` on, or none where the list does not have them all.
-fn items_of(items: &[u64], first: u64, n: u64) -> &[u64] {
-    let count = (items.len() / ITEM_NUMBERS) as u64;
-    if count < n {
-        return &items[0..0];
-    }
-    if count - n < first {
-        return &items[0..0];
-    }
-    let from = ITEM_NUMBERS * first as usize;
-    let end = from + ITEM_NUMBERS * n as usize;
-    &items[from..end]
+fn items_of(items: &[[u64; ITEM_NUMBERS]], first: u64, n: u64) -> &[[u64; ITEM_NUMBERS]] {
+    let end = first.saturating_add(n) as usize;
+    items.get(first as usize..end).unwrap_or(&[])
 }
 
-// Prints number `j` of each item, in braces.
-fn print_column(out: &mut impl Write, items: &[u64], j: usize) -> io::Result<()>
-    requires { j < 3 }
-{
-    let n = items.len() / ITEM_NUMBERS;
-    say(out, b", {")?;
-    for i in 0..n {
-        if 0 < i {
-            say(out, b", ")?;
+// The same number of each item, in braces.
+#[derive(Clone, Copy)]
+struct Column<'a> {
+    items: &'a [[u64; ITEM_NUMBERS]],
+    number: usize,
+    ghost in_item: { number < 3 },
+}
+
+// The first, second and third number of each item.
+fn columns(items: &[[u64; ITEM_NUMBERS]]) -> [Column<'_>; ITEM_NUMBERS] {
+    [
+        Column { items, number: 0 },
+        Column { items, number: 1 },
+        Column { items, number: 2 },
+    ]
+}
+
+impl fmt::Display for Column<'_> {
+    fn fmt<W: fmt::Write>(&self, f: &mut fmt::Formatter<W>) -> fmt::Result {
+        write!(f, "{{")?;
+        for (i, item) in self.items.iter().enumerate() {
+            if 0 < i {
+                write!(f, ", ")?;
+            }
+            write!(f, "{}", item[self.number].cast_signed())?;
         }
-        print_signed(out, number(items, ITEM_NUMBERS * i + j))?;
+        write!(f, "}}")
     }
-    say(out, b"}")
-}
-
-// Prints what a step is built of.
-fn print_source(out: &mut impl Write, source: u64, name: u64) -> io::Result<()> {
-    if source == recipe::STEP {
-        tell(out, b"step ", name)
-    } else {
-        tell(out, b"width ", name)
-    }
-}
-
-// Prints the last argument of a call, what the step is built of.
-fn print_last(out: &mut impl Write, source: u64, name: u64) -> io::Result<()> {
-    say(out, b", ")?;
-    print_source(out, source, name)?;
-    say(out, b")\n")
-}
-
-fn print_contiguous(out: &mut impl Write, source: u64, name: u64, count: u64) -> io::Result<()> {
-    tell(out, b"MPI_Type_contiguous(", count)?;
-    print_last(out, source, name)
-}
-
-fn print_vector(
-    out: &mut impl Write,
-    source: u64,
-    name: u64,
-    count: u64,
-    length: u64,
-    stride: u64,
-) -> io::Result<()> {
-    tell(out, b"MPI_Type_vector(", count)?;
-    tell(out, b", ", length)?;
-    say(out, b", ")?;
-    print_signed(out, stride)?;
-    print_last(out, source, name)
-}
-
-// Count, block lengths and displacements.
-fn print_indexed(
-    out: &mut impl Write,
-    source: u64,
-    name: u64,
-    blocks: u64,
-    items: &[u64],
-) -> io::Result<()> {
-    tell(out, b"MPI_Type_indexed(", blocks)?;
-    print_column(out, items, 0)?;
-    print_column(out, items, 1)?;
-    print_last(out, source, name)
-}
-
-// Number of dimensions, sizes, subsizes and starts.
-fn print_subarray(
-    out: &mut impl Write,
-    source: u64,
-    name: u64,
-    dimensions: u64,
-    items: &[u64],
-) -> io::Result<()> {
-    tell(out, b"MPI_Type_create_subarray(", dimensions)?;
-    print_column(out, items, 0)?;
-    print_column(out, items, 1)?;
-    print_column(out, items, 2)?;
-    say(out, b", MPI_ORDER_C")?;
-    print_last(out, source, name)
-}
-
-fn print_resized(out: &mut impl Write, source: u64, name: u64, extent: u64) -> io::Result<()> {
-    say(out, b"MPI_Type_create_resized(")?;
-    print_source(out, source, name)?;
-    say(out, b", 0, ")?;
-    print_signed(out, extent)?;
-    say(out, b")\n")
-}
-
-// Prints the step whose six numbers these are.
-fn print_step(out: &mut impl Write, step: &[u64], items: &[u64]) -> io::Result<()> {
-    let source = number(step, 1);
-    let name = number(step, 2);
-    let a = number(step, 3);
-    let b = number(step, 4);
-    let c = number(step, 5);
-    match number(step, 0) {
-        recipe::CONTIGUOUS => print_contiguous(out, source, name, a),
-        recipe::VECTOR => print_vector(out, source, name, a, b, c),
-        recipe::INDEXED => print_indexed(out, source, name, b, items_of(items, a, b)),
-        recipe::SUBARRAY => print_subarray(out, source, name, b, items_of(items, a, b)),
-        recipe::RESIZED => print_resized(out, source, name, a),
-        _ => say(out, b"no constructor\n"),
-    }
-}
-
-// Prints a recipe, a line for each step; each line begins with a text and the step's number.
-pub fn print_steps(
-    out: &mut impl Write,
-    text: &[u8],
-    steps: &[u64],
-    items: &[u64],
-) -> io::Result<()> {
-    let n = steps.len() / STEP_NUMBERS;
-    for i in 0..n {
-        let from = STEP_NUMBERS * i;
-        let end = from + STEP_NUMBERS;
-        tell(out, text, i as u64)?;
-        say(out, b": ")?;
-        print_step(out, &steps[from..end], items)?;
-    }
-    Ok(())
 }

@@ -1,52 +1,88 @@
-// What a record's body says: the slot and the file that it names, its lengths, and bytes that are made of a seed (docs/conformance.md).
-ghost use Rattle.std.specs.Prelude.{◌≤◌, ◌<◌};
+// A record's body: a run of numbers of 8 bytes each, which name slots, files and lengths, and bytes that are made of a seed (docs/conformance.md).
+ghost use Rattle.std.specs.Prelude.{◌≤◌, ◌<◌, length};
 
 // How many handle slots and files the driver has.
-const SLOT_COUNT: u64 = 4;
+pub const SLOT_COUNT: usize = 4;
 
-const FILE_COUNT: u64 = 2;
+pub const FILE_COUNT: usize = 2;
 
 // The longest lent list.
 pub const LONGEST_LIST: usize = 300;
 
 // 2^31, below which the numbers lie that fill a lent list.
-pub const FILLS: u64 = 2147483648;
+const FILLS: u64 = 2147483648;
 
-// The handle slot that a body names: its first number.
-pub fn slot_of(body: &[u8]) -> usize
-    ensures { result < 4 }
-{
-    let n = tagged_fields::number(body, 0);
-    (n % SLOT_COUNT) as usize
+// A body, or what is left of it. Numbers and bytes that it lacks are 0.
+#[derive(Clone, Copy)]
+pub struct Body<'a> {
+    pub bytes: &'a [u8],
+    ghost short: { length bytes.now ≤ 65535 },
 }
 
-// The file that number `i` of a body names.
-pub fn file_at(body: &[u8], i: usize) -> usize
-    ensures { result < 2 }
-{
-    let n = tagged_fields::number(body, i);
-    (n % FILE_COUNT) as usize
-}
+impl<'a> Body<'a> {
+    pub fn number(self, i: usize) -> u64 {
+        tagged_fields::number(self.bytes, i)
+    }
 
-// Number `i` of a body as a byte.
-pub fn byte_at(body: &[u8], i: usize) -> u8 {
-    let n = tagged_fields::number(body, i);
-    (n % 256) as u8
-}
+    pub fn signed(self, i: usize) -> i64 {
+        tagged_fields::signed_at(self.bytes, i)
+    }
 
-// A number as a length, and `most` where it is above that.
-pub fn capped(n: u64, most: usize) -> usize
-    ensures { result ≤ most }
-{
-    laws::smaller(n, most as u64) as usize
-}
+    // Number `i` as a byte.
+    pub fn byte(self, i: usize) -> u8 {
+        (self.number(i) % 256) as u8
+    }
 
-// Number `i` of a body as a length, at most `most`: of a lent list, of a buffer, and of a record's body by its header.
-pub fn length_at(body: &[u8], i: usize, most: usize) -> usize
-    ensures { result ≤ most }
-{
-    let n = tagged_fields::number(body, i);
-    capped(n, most)
+    // Number `i` as a length, and `most` where it is above that.
+    pub fn length(self, i: usize, most: usize) -> usize
+        ensures { result ≤ most }
+    {
+        self.number(i).min(most as u64) as usize
+    }
+
+    // Number `i` as what fills a lent list, of either type.
+    pub fn list_fill(self, i: usize) -> u32
+        ensures { result < 2147483648 }
+    {
+        (self.number(i) % FILLS) as u32
+    }
+
+    // The handle slot that a body names: its first number.
+    pub fn slot(self) -> usize
+        ensures { result < 4 }
+    {
+        self.number(0) as usize % SLOT_COUNT
+    }
+
+    // The file that number `i` names.
+    pub fn file(self, i: usize) -> usize
+        ensures { result < 2 }
+    {
+        self.number(i) as usize % FILE_COUNT
+    }
+
+    // What stands after the first `n` numbers.
+    pub fn after(self, n: usize) -> Body<'a> {
+        let start = tagged_fields::bytes_after(self.bytes, n);
+        Body {
+            bytes: &self.bytes[start..],
+        }
+    }
+
+    // Takes the next numbers off, as many as a list has places, and puts them there: `number` reads each.
+    pub fn take_list<'b, T: Copy, F: Fn(Body<'a>, usize) -> T>(
+        &mut self,
+        list: &'b mut [T],
+        number: F,
+    ) -> &'b [T]
+        requires { F.IsAlwaysCallable number }
+    {
+        for (i, place) in list.iter_mut().enumerate() {
+            *place = number(*self, i);
+        }
+        *self = self.after(list.len());
+        list
+    }
 }
 
 // Byte `i` of a file or a buffer that is made of a seed.
@@ -59,7 +95,7 @@ fn seeded_byte(seed: u64, i: usize) -> u8 {
 
 // Makes all bytes of a file or a buffer of a seed.
 pub fn fill(seed: u64, bytes: &mut [u8]) {
-    for i in 0..bytes.len() {
-        bytes[i] = seeded_byte(seed, i);
+    for (i, byte) in bytes.iter_mut().enumerate() {
+        *byte = seeded_byte(seed, i);
     }
 }

@@ -15,3 +15,4 @@ pub mod Holding
 pub mod Signs
 pub mod Same
 pub mod Etypes
+pub mod Numbered

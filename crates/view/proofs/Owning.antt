@@ -1,7 +1,7 @@
 -- The reverse lookup: what it finds is the pair that the byte belongs to, or there is none; and nothing else is.
 use Rattle.laws.proofs.Prelude.{ℕ, ◌+◌, ◌-◌, ◌*◌, ◌/◌, ◌%◌, ◌≤◌, ◌<◌, ◌≡◌, refl, sym, ap, ◌∙◌, true, not, ⊎_elim, arith, div-add-mod', eq-or-lt_of_le, pos, lt-ltb, le-ltb, le-leb, ltb-true, leb-true, not-false, not-true, least_false, also_inv, also_true, lt_or_le, not_both, least_false_le, least_false_keeps, least_false_breaks, run_div, run_mod}
-use Rattle.view.specs.declared.Owner.{Owner}
-use Rattle.view.specs.declared.Owner.TheVariants.{Pair, Nobody}
+use Rattle.std.proofs.Common.{Option, Some, None}
+use Rattle.view.specs.declared.Pair.{Pair}
 use Rattle.view.specs.Types.{PaperView, entries, width_at, displacement_at, extent_of, whole}
 use Rattle.view.specs.Rules.{instances}
 use Rattle.view.specs.Acceptance.{accepted}
@@ -109,18 +109,18 @@ module _ (v : PaperView) (f : Facts v) (b : ℕ) where
       })
 
 -- two answers for one byte are the same
-one_answer : (v : PaperView) (b : ℕ) → Distinct v → (o p : Owner) → Answers v b o → Answers v b p → o ≡ p
+one_answer : (v : PaperView) (b : ℕ) → Distinct v → (o p : Option Pair) → Answers v b o → Answers v b p → o ≡ p
 unfolding owner_numbers
-one_answer v b d (Pair o j) (Pair p k) a c =
+one_answer v b d (Some o) (Some p) a c =
     let m = a.pair refl in
     let n = c.pair refl in
-    let s = belongs_one v b m.0 n.0 j k d m.1.1 n.1.1 in
-    let e : o.0 ≡ p.0 = m.1.0 ∙ ap pos s.0 ∙ sym n.1.0 in
-    let g : j ≡ k = s.1 in
-    λ i. Pair (record { 0 = e i }) (g i)
-one_answer v b d (Pair o j) Nobody a c = let m = a.pair refl in absurd (c.none refl m.0 j m.1.1)
-one_answer v b d Nobody (Pair p k) a c = let n = c.pair refl in absurd (a.none refl n.0 k n.1.1)
-one_answer v b d Nobody Nobody a c = refl
+    let s = belongs_one v b m.0 n.0 o.index p.index d m.1.1 n.1.1 in
+    let e : o.offset.0 ≡ p.offset.0 = m.1.0 ∙ ap pos s.0 ∙ sym n.1.0 in
+    let g : o.index ≡ p.index = s.1 in
+    λ i. Some (record { offset = record { 0 = e i }; index = g i })
+one_answer v b d (Some o) None a c = let m = a.pair refl in absurd (c.none refl m.0 o.index m.1.1)
+one_answer v b d None (Some p) a c = let n = c.pair refl in absurd (a.none refl n.0 p.index n.1.1)
+one_answer v b d None None a c = refl
 
 -- ---- of a view that is accepted for writing
 
@@ -131,5 +131,5 @@ module _ (mode : ℕ) (v : PaperView) (h : accepted mode v ≡ true) (w : allows
   pub owner_is : Answers v b (owner_of v b)
   owner_is = answers v (facts v (accepted_valid mode v h)) b (narrow mode v h w)
 
-  pub owner_only : (o : Owner) → Answers v b o → o ≡ owner_of v b
+  pub owner_only : (o : Option Pair) → Answers v b o → o ≡ owner_of v b
   owner_only o a = one_answer v b (distinct mode v h w) o (owner_of v b) a owner_is

@@ -1,14 +1,13 @@
 -- What a refused set names, by its refusal number: each number is given only where its check fails and the earlier ones pass, so the entry that is named has the property of that number.
 -- Rests on the theorems about single rules (FirstEntry.antt, Clashing.antt).
 use Rattle.laws.proofs.Prelude.{ℕ, ◌≤◌, ◌<◌, ◌≡◌, ◌≢◌, refl, sym, ap, ◌∙◌, subst, Bool, true, false, not, inl, inr, eqb, ne_eqb, eq-eqb, lt-ltb, le-ltb, also, either, check, IsFirst, not_both, check_past, check_here, check_zero, also_inv, either_right}
-use Rattle.view.specs.declared.Fault.{Fault}
 use Rattle.view.specs.declared.Named.{Named}
 use Rattle.view.specs.declared.Named.TheVariants.{Nothing}
 use Rattle.view.specs.Types.{PaperType, PaperView, entries}
 use Rattle.view.specs.Modes.{allows_writing}
 use Rattle.view.specs.Rules.{counts_allowed, entries_allowed, type_ordered, whole_groups, IsBuilt, view_holes_fit}
 use Rattle.view.specs.Named.{named_numbers, BreaksLimits, BreaksOrder, BreaksHoles, BreaksOverlap, FirstOfBoth, FirstOfFiletype, FirstDiffering, FirstBelow, Names}
-use Rattle.view.specs.Parts.{group_matches, origin_allowed, deciding_group, limits_entry, order_entry, of_both, clear, named_by, fault_of, fault_by}
+use Rattle.view.specs.Parts.{Fault, group_matches, origin_allowed, deciding_group, limits_entry, order_entry, of_both, clear, named_by, fault_of, fault_by}
 use Rattle.view.specs.Acceptance.{view_refusal, accepted, Valid}
 use Rattle.view.proofs.Groups.{groups_whole, groups_some, built_checks, built_is}
 use Rattle.view.proofs.Exactly.{counts_some}

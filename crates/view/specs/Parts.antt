@@ -1,16 +1,16 @@
 -- Need not be believed. What computes where a claim has the property: the test of the groups, what a refused set names, the reverse lookup, end of file, a view's record; and what the contracts of inner functions cite.
-use Rattle.std.specs.Prelude.{ℕ, ◌+◌, ◌-◌, ◌*◌, ◌/◌, ◌%◌, ◌≤◌, ◌<◌, Bool, cond, not, List, ◌∷◌, ◌≡◌, leb, ltb, eqb, pos, replicate}
+use Rattle.std.specs.Prelude.{ℕ, ◌+◌, ◌-◌, ◌*◌, ◌/◌, ◌%◌, ◌≤◌, ◌<◌, Bool, cond, not, Option, Some, None, Result, Ok, Err, List, ◌∷◌, ◌≡◌, leb, ltb, eqb, pos, replicate}
 use Rattle.laws.specs.Checks.{also, either}
 use Rattle.laws.specs.Search.{least_false, all, total}
 use Rattle.laws.specs.Lists.{nth}
 use Rattle.laws.specs.Parts.{front, greatest}
 use Rattle.view.specs.declared.View.{View}
-use Rattle.view.specs.declared.Numbers.{Numbers}
-use Rattle.view.specs.declared.Fault.{Fault}
+use Rattle.view.specs.declared.refusals.Refusal.{Refusal}
+use Rattle.view.specs.declared.refusals.Refusal.TheVariants.{Handle, Representation, Displacement, EntryCount, Extent, Entry, Order, WholeGroups, Group, Origin, Hole, Overlap, Mode, Range, Room, Length, Whence, OpenMode}
+use Rattle.view.specs.declared.Refused.{Refused}
 use Rattle.view.specs.declared.Named.{Named}
 use Rattle.view.specs.declared.Named.TheVariants.{Nothing, EtypeEntry, FiletypeEntry}
-use Rattle.view.specs.declared.Owner.{Owner}
-use Rattle.view.specs.declared.Owner.TheVariants.{Pair, Nobody}
+use Rattle.view.specs.declared.Pair.{Pair}
 use Rattle.view.specs.Limits.{offset_count}
 use Rattle.view.specs.Types.{PaperType, PaperView, paper, entries, width_at, displacement_at, extent_of, whole}
 use Rattle.view.specs.Rules.{entry_allowed, whole_groups, instances, origin, hole, hole_allowed}
@@ -141,7 +141,11 @@ named_by v n =
     (cond (eqb n 10) (FiletypeEntry (overlap_entry v))
     Nothing)))))
 
--- a refusal number and what it names
+-- a refusal number and what it names; 0 and nothing where nothing is refused
+pub record Fault : Type 0 where
+  pub refusal : ℕ
+  pub named : Named
+
 abbrev pub fault_of : ℕ → Named → Fault
 fault_of n named = record { refusal = n; named = named }
 
@@ -190,10 +194,6 @@ default_view = record {
   origins = replicate max_instances 0;
 }
 
--- the view of these numbers, with the etype's widths and displacements and the filetype's origins: a view as inner functions take it, its numbers by value and its lists lent
-abbrev pub view_with : Numbers → List ℕ → List ℕ → List ℕ → View
-view_with v ws ds ps = record { numbers = v; widths = ws; displacements = ds; origins = ps }
-
 -- ---- the reverse lookup, of which the property is `Answers`: each entry of the filetype is tried
 
 -- where entry i of the filetype begins in the first tile
@@ -218,11 +218,11 @@ hits v b i =
 unfoldable pub hit_entry : PaperView → ℕ → ℕ
 hit_entry v b = least_false (λ i. not (hits v b i)) (entries v.filetype)
 
-unfoldable pub owner_of : PaperView → ℕ → Owner
+unfoldable pub owner_of : PaperView → ℕ → Option Pair
 owner_of v b =
     cond (ltb (hit_entry v b) (entries v.filetype))
-    (Pair (record { 0 = pos (offset_in v b (hit_entry v b)) }) (index_in v b (hit_entry v b)))
-    Nobody
+    (Some (record { offset = record { 0 = pos (offset_in v b (hit_entry v b)) }; index = index_in v b (hit_entry v b) }))
+    None
 
 -- ---- end of file, of which the property is `IsEnd`
 
@@ -268,3 +268,39 @@ pub record WidthsValid (n : ℕ) (ws : List ℕ) : Type 0 where
 -- S
 unfoldable pub size_of : ℕ → List ℕ → ℕ
 size_of n ws = total (nth ws) n
+
+-- ---- refusals as inner functions answer them: each has its number of documents 01 and 02. The calls of a handle answer these numbers, and their definitions have them
+
+unfoldable pub refusal_number : Refusal → ℕ
+refusal_number Handle = 1
+refusal_number Representation = 2
+refusal_number Displacement = 3
+refusal_number EntryCount = 4
+refusal_number Extent = 5
+refusal_number Entry = 6
+refusal_number Order = 7
+refusal_number WholeGroups = 17
+refusal_number Group = 18
+refusal_number Origin = 19
+refusal_number Hole = 9
+refusal_number Overlap = 10
+refusal_number Mode = 11
+refusal_number Range = 12
+refusal_number Room = 13
+refusal_number Length = 14
+refusal_number Whence = 15
+refusal_number OpenMode = 16
+
+-- the number of an answer that may be a refusal: 0 if it is granted
+unfoldable pub refusal_in : {A : Type 0} → Result A Refusal → ℕ
+refusal_in (Ok a) = 0
+refusal_in (Err r) = refusal_number r
+
+-- a refusal of a set, with what it names
+abbrev pub refused_as : Refusal → Named → Refused
+refused_as r named = record { refusal = r; named = named }
+
+-- the number and what it names, of an answer that may be a refusal of a set: 0 and nothing if it is granted
+unfoldable pub fault_in : {A : Type 0} → Result A Refused → Fault
+fault_in (Ok a) = fault_of 0 Nothing
+fault_in (Err r) = fault_of (refusal_number r.refusal) r.named

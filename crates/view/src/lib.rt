@@ -1,9 +1,10 @@
-//! A file view: displacement, etype and filetype, as MPI defines it, with its limits, the refusal numbers and the default view; the modes are in mode.rt, what a refused set names in naming.rt, what an etype's lists add up to in totals.rt.
+//! A file view: displacement, etype and filetype, as MPI defines it, with its limits, the refusal numbers and the default view; the modes are in mode.rt, the refusals in refusals.rt, what a refused set names in naming.rt, what an etype's lists add up to in totals.rt.
 //! What a view means (document 01's rules, places, belonging and end of file) is in specs/.
 #![tactic(auto)]
 
 mod mode;
 mod naming;
+mod refusals;
 mod totals;
 
 ghost use Rattle.std.specs.Prelude.{◌≡◌, ◌<◌, pos};
@@ -11,15 +12,17 @@ ghost use Rattle.view.specs.Parts.{default_view};
 ghost use Rattle.view.specs.Types.{whole};
 ghost use Rattle.view.specs.Owners.{owner_numbers};
 
+pub use refusals::Refusal;
+
 // An etype offset: a count of etypes from the beginning of the view. Offsets come in signed.
-#[derive(Clone, Copy)]
+#[derive(Clone, Copy, PartialEq, Eq, Debug)]
 pub struct Offset(pub i64);
 
 // A byte position in the file.
-#[derive(Clone, Copy)]
+#[derive(Clone, Copy, PartialEq, Eq, Debug)]
 pub struct BytePos(pub u64);
 
-// A number for each entry of an etype, and one for each instance in a filetype.
+// A number for each entry of an etype, and one for each instance in a filetype: arrays of the greatest length, with how many are used in the types' numbers, since no library here allocates and a handle goes by value.
 pub type PerEntry = [u64; View::MAX_ETYPE_ENTRIES as usize];
 
 pub type PerInstance = [u64; View::MAX_INSTANCES as usize];
@@ -38,7 +41,7 @@ pub struct Filetype {
     pub extent: u64,
 }
 
-// The numbers of a view. A function that needs a view takes these by value and borrows the lists that it needs, so that no call copies a list.
+// The numbers of a view.
 #[derive(Clone, Copy)]
 pub struct Numbers {
     pub displacement: u64,
@@ -46,7 +49,7 @@ pub struct Numbers {
     pub filetype: Filetype,
 }
 
-// A view: its numbers, the widths and displacements of the etype's entries, and the origins of the filetype's instances.
+// A view: its numbers, the widths and displacements of the etype's entries, and the origins of the filetype's instances. It has no invariant: a handle may hold any numbers, which check 1 refuses (`handle_valid`), so functions ask for what they need.
 // Instance i is the etype shifted by origin i. Places of a list past its type's count mean nothing.
 #[derive(Clone, Copy)]
 pub struct View {
@@ -56,14 +59,14 @@ pub struct View {
     pub origins: PerInstance,
 }
 
-// What the reverse lookup finds at a file byte: the pair of offset and index in the packed data, or none.
-#[derive(Clone, Copy)]
-pub enum Owner {
-    Pair(Offset, u64),
-    Nobody,
+// The pair that a file byte belongs to: the etype's offset, and the index in its packed data. The reverse lookup finds one or none.
+#[derive(Clone, Copy, PartialEq, Eq, Debug)]
+pub struct Pair {
+    pub offset: Offset,
+    pub index: u64,
 }
 
-// The numbers of a lookup's answer: whether a pair is named, its offset and its index; both are 0 where none is.
+// The numbers of a lookup's answer: whether a pair is named, its offset and its index; both are 0 where none is. The flag stands beside the numbers, since `Answers` and figure P8 state the lookup so (`owner_numbers`).
 #[derive(Clone, Copy)]
 pub struct OwnerNumbers {
     pub named: bool,
@@ -71,18 +74,19 @@ pub struct OwnerNumbers {
     pub index: u64,
 }
 
-impl Owner {
+impl OwnerNumbers {
     // The numbers of either answer.
-    pub fn numbers(self) -> OwnerNumbers
-        ensures { result ≡ owner_numbers self }
+    #[tactic(auto, unfolding(crate::specs::Owners::owner_numbers))]
+    pub fn of(owner: Option<Pair>) -> OwnerNumbers
+        ensures { result ≡ owner_numbers owner }
     {
-        match self {
-            Owner::Pair(offset, index) => OwnerNumbers {
+        match owner {
+            Some(pair) => OwnerNumbers {
                 named: true,
-                offset: offset,
-                index: index,
+                offset: pair.offset,
+                index: pair.index,
             },
-            Owner::Nobody => OwnerNumbers {
+            None => OwnerNumbers {
                 named: false,
                 offset: Offset(0),
                 index: 0,
@@ -91,8 +95,8 @@ impl Owner {
     }
 }
 
-// What a refused set names: nothing, or an entry of the etype or of the filetype, counted from 0.
-#[derive(Clone, Copy)]
+// What a refused set names: nothing, or an entry of the etype or of the filetype, counted from 0. The papers number the three cases alike (`named_numbers`): naming nothing is a case, and no Option around two.
+#[derive(Clone, Copy, PartialEq, Eq, Debug)]
 pub enum Named {
     Nothing,
     EtypeEntry(u64),
@@ -106,10 +110,10 @@ pub struct NamedNumbers {
     pub entry: u64,
 }
 
-// What a set's checks from 2 on say of a view: the refusal number, 0 if there is none, and what it names.
-#[derive(Clone, Copy)]
-pub struct Fault {
-    pub refusal: u64,
+// What a refused set says of a view: the refusal, and what it names.
+#[derive(Clone, Copy, PartialEq, Eq, Debug)]
+pub struct Refused {
+    pub refusal: Refusal,
     pub named: Named,
 }
 
@@ -217,14 +221,14 @@ impl View {
     }
 }
 
-// A signed number as a natural one, and 0 for a negative one, of which no rule asks it. For our own crates.
+// A signed number as a natural one, and 0 for a negative one, of which no rule asks it. `u64::try_from(x).unwrap_or(0)` is the same test in more words. For our own crates.
 pub fn natural(x: i64) -> u64
     ensures { result ≡ whole x }
 {
     if x < 0 { 0 } else { x as u64 }
 }
 
-// An etype offset of a number that a signed one holds. For our own crates.
+// An etype offset of a number that a signed one holds: a TryFrom could fail, and this cannot. For our own crates.
 pub fn to_offset(n: u64) -> Offset
     requires { n < 9223372036854775808 }
     ensures { result.0 ≡ pos n }

@@ -1,10 +1,10 @@
-// What a refused set names, and what a set's checks say of a view.
+// What a refused set names, and what it says of a view.
 ghost use Rattle.std.specs.Prelude.{◌≡◌};
 ghost use Rattle.view.specs.declared.Named.TheVariants.{Nothing, EtypeEntry, FiletypeEntry};
 ghost use Rattle.view.specs.Named.{named_numbers};
-ghost use Rattle.view.specs.Parts.{fault_of};
+ghost use Rattle.view.specs.Parts.{refused_as};
 
-use crate::{Fault, Named, NamedNumbers};
+use crate::{Named, NamedNumbers, Refusal, Refused};
 
 impl Named {
     pub const TYPE_NONE: u64 = 0;
@@ -14,6 +14,7 @@ impl Named {
     pub const TYPE_FILETYPE: u64 = 2;
 
     // The numbers of each case.
+    #[tactic(auto, unfolding(crate::specs::Named::named_numbers))]
     pub fn numbers(self) -> NamedNumbers
         ensures { result ≡ named_numbers self }
     {
@@ -35,32 +36,32 @@ impl Named {
 }
 
 // For our own crates.
-impl Fault {
-    // A refusal that names nothing, or none.
-    pub fn unnamed(refusal: u64) -> Fault
-        ensures { result ≡ fault_of refusal Nothing }
+impl Refused {
+    // A refusal that names nothing.
+    pub fn unnamed(refusal: Refusal) -> Refused
+        ensures { result ≡ refused_as refusal Nothing }
     {
-        Fault {
+        Refused {
             refusal: refusal,
             named: Named::Nothing,
         }
     }
 
     // A refusal that names an entry of the etype.
-    pub fn of_etype(refusal: u64, entry: usize) -> Fault
-        ensures { result ≡ fault_of refusal (EtypeEntry entry) }
+    pub fn of_etype(refusal: Refusal, entry: usize) -> Refused
+        ensures { result ≡ refused_as refusal (EtypeEntry entry) }
     {
-        Fault {
+        Refused {
             refusal: refusal,
             named: Named::EtypeEntry(entry as u64),
         }
     }
 
     // A refusal that names an entry of the filetype.
-    pub fn of_filetype(refusal: u64, entry: usize) -> Fault
-        ensures { result ≡ fault_of refusal (FiletypeEntry entry) }
+    pub fn of_filetype(refusal: Refusal, entry: usize) -> Refused
+        ensures { result ≡ refused_as refusal (FiletypeEntry entry) }
     {
-        Fault {
+        Refused {
             refusal: refusal,
             named: Named::FiletypeEntry(entry as u64),
         }

@@ -1,8 +1,7 @@
 -- The entries of one instance tried in turn: no sum wraps, and the packed bytes before each are summed up.
 use Rattle.laws.proofs.Prelude.{ℕ, ◌+◌, ◌≤◌, ◌<◌, ◌≡◌, refl, ap, ◌∙◌, List, arith, mul-le-mul, get_or, w64, Fits, total, nth, total_more, total_most}
-use Rattle.view.specs.declared.Offset.{Offset}
-use Rattle.view.specs.declared.Owner.{Owner}
-use Rattle.view.specs.declared.Owner.TheVariants.{Pair, Nobody}
+use Rattle.std.proofs.Common.{Option, Some, None}
+use Rattle.view.specs.declared.Pair.{Pair}
 use Rattle.view_owner.specs.Parts.{entry_owner, owner_at, instance_owner, InstanceValid}
 use Rattle.view_owner.proofs.Firsts.{Missed, missed_none, missed_more, missed_stop, missed_end}
 
@@ -17,25 +16,25 @@ module _ (n : ℕ) (ws ds : List ℕ) (F K : ℕ) (g a b : ℕ) where
   tried_none = record { missed = missed_none (owner_at ws ds F K g a b) n; sum = refl }
 
   module _ (i packed : ℕ) (t : Tried n ws ds F K g a b i packed) where
-    pub tried_end : n ≤ i → Nobody ≡ instance_owner n ws ds F K g a b
+    pub tried_end : n ≤ i → None ≡ instance_owner n ws ds F K g a b
     unfolding instance_owner
     tried_end l = missed_end (owner_at ws ds F K g a b) n i t.missed l
 
     -- what the next entry answers
-    module _ (l : i < n) (r : Owner) (h : r ≡ entry_owner F K g (a + get_or ds i 0) (get_or ws i 0) packed b) where
+    module _ (l : i < n) (r : Option Pair) (h : r ≡ entry_owner F K g (a + get_or ds i 0) (get_or ws i 0) packed b) where
       answered : r ≡ owner_at ws ds F K g a b i
       unfolding owner_at
       answered = h ∙ ap (λ (p : ℕ). entry_owner F K g (a + nth ds i) (nth ws i) p b) t.sum
 
-      pub tried_more : r ≡ Nobody → Tried n ws ds F K g a b (i + 1) (packed + get_or ws i 0)
+      pub tried_more : r ≡ None → Tried n ws ds F K g a b (i + 1) (packed + get_or ws i 0)
       tried_more q = record {
         missed = missed_more (owner_at ws ds F K g a b) n i t.missed l r answered q;
         sum = omega (arith, total_more (nth ws) i, t.sum);
       }
 
-      pub tried_stop : (x : Offset) (j : ℕ) → r ≡ Pair x j → r ≡ instance_owner n ws ds F K g a b
+      pub tried_stop : (p : Pair) → r ≡ Some p → Some p ≡ instance_owner n ws ds F K g a b
       unfolding instance_owner
-      tried_stop x j q = missed_stop (owner_at ws ds F K g a b) n i t.missed l r answered x j q
+      tried_stop p q = missed_stop (owner_at ws ds F K g a b) n i t.missed l r answered p q
 
   module _ (k : InstanceValid n ws ds F K g a) where
     pub start_fits : (i : ℕ) → i < n → Fits w64 (a + get_or ds i 0)

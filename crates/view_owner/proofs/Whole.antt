@@ -1,31 +1,29 @@
 -- All instances tried in turn: what is found on the record is what the definition of the reverse lookup says of the view on paper.
-use Rattle.laws.proofs.Prelude.{ℕ, ◌+◌, ◌*◌, ◌/◌, ◌%◌, ◌≤◌, ◌<◌, ◌≡◌, sym, ap, ◌∙◌, cond, List, arith, get_or, pos, w64, Fits, total, nth, run_div, run_mod, run_below, total_same}
-use Rattle.view.specs.declared.Offset.{Offset}
-use Rattle.view.specs.declared.Owner.{Owner}
-use Rattle.view.specs.declared.Owner.TheVariants.{Pair, Nobody}
+use Rattle.laws.proofs.Prelude.{ℕ, ◌+◌, ◌*◌, ◌/◌, ◌%◌, ◌≤◌, ◌<◌, ◌≡◌, sym, ap, ◌∙◌, cond, arith, get_or, pos, w64, Fits, total, nth, run_div, run_mod, run_below, total_same}
+use Rattle.std.proofs.Common.{Option, Some, None}
+use Rattle.view.specs.declared.Pair.{Pair}
 use Rattle.view.specs.declared.View.{View}
-use Rattle.view.specs.declared.Numbers.{Numbers}
 use Rattle.view.specs.Types.{paper, entries, width_at}
 use Rattle.view.specs.Acceptance.{Valid}
 use Rattle.view.specs.Places.{packed_before}
-use Rattle.view.specs.Parts.{view_with, entry_start, offset_in, index_in, hits, hit_entry, owner_of}
+use Rattle.view.specs.Parts.{entry_start, offset_in, index_in, hits, hit_entry, owner_of}
 use Rattle.view.proofs.Paper.{paper_entries, paper_file_entries, paper_width, paper_file_width, paper_file_displacement, paper_file_extent, paper_start, paper_instances}
 use Rattle.view.proofs.Held.{start_small, some_entry, few_entries, record_entry, record_few, record_extent, record_origin}
 use Rattle.view_owner.specs.Parts.{first_owner, entry_owner, owner_at, instance_owner, InstanceValid}
 use Rattle.view_owner.proofs.Firsts.{first_runs, first_same, first_searched, Missed, missed_more, missed_stop, missed_end}
 
 -- what instance g answers, on the record
-unfoldable pub owner_from : View → ℕ → ℕ → Owner
+unfoldable pub owner_from : View → ℕ → ℕ → Option Pair
 owner_from v b g = instance_owner v.numbers.etype.entries v.widths v.displacements v.numbers.filetype.extent v.numbers.filetype.instances g (v.numbers.displacement + nth v.origins g) b
 
 -- ---- what the loop over instances needs
 
-module _ (v : Numbers) (ws ds ps : List ℕ) (k : Valid (paper (view_with v ws ds ps))) (g : ℕ) (l : g < v.filetype.instances) where
-  few : v.filetype.instances ≤ 64
-  few = record_few (view_with v ws ds ps) k
+module _ (v : View) (k : Valid (paper v)) (g : ℕ) (l : g < v.numbers.filetype.instances) where
+  few : v.numbers.filetype.instances ≤ 64
+  few = record_few v k
 
-  begins : v.displacement + nth ps g < 1099512676352
-  begins = omega (arith, record_origin (view_with v ws ds ps) k g l, start_small (view_with v ws ds ps) k)
+  begins : v.numbers.displacement + nth v.origins g < 1099512676352
+  begins = omega (arith, record_origin v k g l, start_small v k)
 
   pub origin_held : g < 64
   origin_held = omega (arith, few)
@@ -33,27 +31,27 @@ module _ (v : Numbers) (ws ds ps : List ℕ) (k : Valid (paper (view_with v ws d
   pub origin_scaled : Fits w64 (g * 8)
   origin_scaled = record { fits = omega (arith, few) }
 
-  pub begin_fits : Fits w64 (v.displacement + get_or ps g 0)
+  pub begin_fits : Fits w64 (v.numbers.displacement + get_or v.origins g 0)
   begin_fits = record { fits = omega (arith, begins) }
 
-  pub instance_valid : InstanceValid v.etype.entries ws ds v.filetype.extent v.filetype.instances g (v.displacement + get_or ps g 0)
+  pub instance_valid : InstanceValid v.numbers.etype.entries v.widths v.displacements v.numbers.filetype.extent v.numbers.filetype.instances g (v.numbers.displacement + get_or v.origins g 0)
   instance_valid = record {
-    tile = record { extent = record_extent (view_with v ws ds ps) k; instance = l; few = few };
+    tile = record { extent = record_extent v k; instance = l; few = few };
     begins = omega (arith, begins);
-    entries_few = few_entries (view_with v ws ds ps) k;
-    ends = record_entry (view_with v ws ds ps) k;
+    entries_few = few_entries v k;
+    ends = record_entry v k;
   }
 
 module _ (v : View) (k : Valid (paper v)) where
   -- ---- the answers of the entries
 
   -- entry i of the filetype, on paper
-  file_owner : ℕ → ℕ → Owner
-  file_owner b i = cond (hits (paper v) b i) (Pair (record { 0 = pos (offset_in (paper v) b i) }) (index_in (paper v) b i)) Nobody
+  file_owner : ℕ → ℕ → Option Pair
+  file_owner b i = cond (hits (paper v) b i) (Some (record { offset = record { 0 = pos (offset_in (paper v) b i) }; index = index_in (paper v) b i })) None
 
   searched : (b : ℕ) → first_owner (file_owner b) (entries (paper v).filetype) ≡ owner_of (paper v) b
   unfolding file_owner owner_of hit_entry
-  searched b = first_searched (hits (paper v) b) (λ i. record { 0 = pos (offset_in (paper v) b i) }) (index_in (paper v) b) (entries (paper v).filetype)
+  searched b = first_searched (hits (paper v) b) (λ i. record { offset = record { 0 = pos (offset_in (paper v) b i) }; index = index_in (paper v) b i }) (entries (paper v).filetype)
 
   -- entry i of instance g
   module _ (b g i : ℕ) (lg : g < v.numbers.filetype.instances) (li : i < v.numbers.etype.entries) where
@@ -92,16 +90,16 @@ module _ (v : View) (k : Valid (paper v)) where
   -- ---- what the loop returns
 
   module _ (b g : ℕ) (m : Missed (owner_from v b) g v.numbers.filetype.instances) where
-    pub lookup_end : v.numbers.filetype.instances ≤ g → Nobody ≡ owner_of (paper v) b
+    pub lookup_end : v.numbers.filetype.instances ≤ g → None ≡ owner_of (paper v) b
     lookup_end l = missed_end (owner_from v b) v.numbers.filetype.instances g m l ∙ record_owner_is b
 
-    module _ (l : g < v.numbers.filetype.instances) (r : Owner) (h : r ≡ instance_owner v.numbers.etype.entries v.widths v.displacements v.numbers.filetype.extent v.numbers.filetype.instances g (v.numbers.displacement + get_or v.origins g 0) b) where
+    module _ (l : g < v.numbers.filetype.instances) (r : Option Pair) (h : r ≡ instance_owner v.numbers.etype.entries v.widths v.displacements v.numbers.filetype.extent v.numbers.filetype.instances g (v.numbers.displacement + get_or v.origins g 0) b) where
       answered : r ≡ owner_from v b g
       unfolding owner_from
       answered = h
 
-      pub lookup_more : r ≡ Nobody → Missed (owner_from v b) (g + 1) v.numbers.filetype.instances
+      pub lookup_more : r ≡ None → Missed (owner_from v b) (g + 1) v.numbers.filetype.instances
       lookup_more q = missed_more (owner_from v b) v.numbers.filetype.instances g m l r answered q
 
-      pub lookup_stop : (x : Offset) (j : ℕ) → r ≡ Pair x j → r ≡ owner_of (paper v) b
-      lookup_stop x j q = missed_stop (owner_from v b) v.numbers.filetype.instances g m l r answered x j q ∙ record_owner_is b
+      pub lookup_stop : (p : Pair) → r ≡ Some p → Some p ≡ owner_of (paper v) b
+      lookup_stop p q = missed_stop (owner_from v b) v.numbers.filetype.instances g m l r answered p q ∙ record_owner_is b

@@ -5,86 +5,81 @@
 ghost use Rattle.std.specs.Prelude.{◌≡◌, ◌+◌, ◌<◌};
 ghost use Rattle.view.specs.Types.{paper};
 ghost use Rattle.view.specs.Acceptance.{Valid};
-ghost use Rattle.view.specs.Parts.{owner_of, view_with};
+ghost use Rattle.view.specs.Parts.{owner_of};
 ghost use Rattle.view_owner.specs.Parts.{entry_owner, instance_owner, InstanceIn, InstanceValid};
 
-use view::{BytePos, Numbers, Owner, PerEntry, PerInstance, View};
+use view::{BytePos, Filetype, Pair, View};
 
-// The pair of byte `b` if it lies, in some tile, in an entry of instance `g`, or none.
+// The pair of byte `b` if it lies, in some tile of the filetype, in an entry of instance `g`, or none.
 // In the first tile the entry begins at `start`; `packed` bytes stand before it in the packed data.
-fn owner_in_entry(v: Numbers, g: u64, start: BytePos, width: u64, packed: u64, b: BytePos) -> Owner
-    requires { InstanceIn v.filetype.extent v.filetype.instances g × (packed + width < 18446744073709551616) }
-    ensures { result ≡ entry_owner v.filetype.extent v.filetype.instances g start.0 width packed b.0 }
+fn owner_in_entry(
+    f: Filetype,
+    g: u64,
+    start: BytePos,
+    width: u64,
+    packed: u64,
+    b: BytePos,
+) -> Option<Pair>
+    requires { InstanceIn f.extent f.instances g × (packed + width < 18446744073709551616) }
+    ensures { result ≡ entry_owner f.extent f.instances g start.0 width packed b.0 }
 {
     if b.0 < start.0 {
-        return Owner::Nobody;
+        return None;
     }
     let distance = b.0 - start.0;
-    let rest = distance % v.filetype.extent;
+    let rest = distance % f.extent;
     if width <= rest {
-        return Owner::Nobody;
+        return None;
     }
-    let tile = distance / v.filetype.extent;
+    let tile = distance / f.extent;
     // Past this no offset of the tile is allowed, and the product below need not fit.
     if View::OFFSET_COUNT <= tile {
-        return Owner::Nobody;
+        return None;
     }
-    let before = tile * v.filetype.instances;
+    let before = tile * f.instances;
     let offset = before + g;
     if View::OFFSET_COUNT <= offset {
-        return Owner::Nobody;
+        return None;
     }
     let index = packed + rest;
-    Owner::Pair(view::to_offset(offset), index)
+    Some(Pair {
+        offset: view::to_offset(offset),
+        index: index,
+    })
 }
 
 // The pair of byte `b` if it lies, in some tile, in instance `g`, or none. In the first tile the instance begins at `begin`.
-fn owner_in_instance<'a>(
-    v: Numbers,
-    widths: &'a PerEntry,
-    displacements: &'a PerEntry,
-    g: u64,
-    begin: BytePos,
-    b: BytePos,
-) -> Owner
-    requires { InstanceValid v.etype.entries widths.now displacements.now v.filetype.extent v.filetype.instances g begin.0 }
-    ensures { result ≡ instance_owner v.etype.entries widths.now displacements.now v.filetype.extent v.filetype.instances g begin.0 b.0 }
+// By index, as `owner_at` counts the entries: the packed sum runs beside two lists.
+fn owner_in_instance(view: &View, g: u64, begin: BytePos, b: BytePos) -> Option<Pair>
+    requires { InstanceValid view.now.numbers.etype.entries view.now.widths view.now.displacements view.now.numbers.filetype.extent view.now.numbers.filetype.instances g begin.0 }
+    ensures { result ≡ instance_owner view.now.numbers.etype.entries view.now.widths view.now.displacements view.now.numbers.filetype.extent view.now.numbers.filetype.instances g begin.0 b.0 }
 {
-    let n = v.etype.entries as usize;
+    let n = view.numbers.etype.entries as usize;
+    let f = view.numbers.filetype;
     let mut packed = 0;
-    let mut i = 0;
-    while i < n {
-        let width = widths[i];
-        let start = begin.0 + displacements[i];
-        let owner = owner_in_entry(v, g, BytePos(start), width, packed, b);
-        if let Owner::Pair(_, _) = owner {
-            return owner;
+    for i in 0..n {
+        let width = view.widths[i];
+        let start = begin.0 + view.displacements[i];
+        let owner = owner_in_entry(f, g, BytePos(start), width, packed, b);
+        if let Some(pair) = owner {
+            return Some(pair);
         }
         packed += width;
-        i += 1;
     }
-    Owner::Nobody
+    None
 }
 
 // The pair that file byte `b` belongs to, or none: each entry of the filetype is tried in turn. For our own crates.
-pub fn owner_of<'a>(
-    v: Numbers,
-    widths: &'a PerEntry,
-    displacements: &'a PerEntry,
-    origins: &'a PerInstance,
-    b: BytePos,
-) -> Owner
-    requires { Valid (paper (view_with v widths.now displacements.now origins.now)) }
-    ensures { result ≡ owner_of (paper (view_with v widths.now displacements.now origins.now)) b.0 }
+pub fn owner_of(view: &View, b: BytePos) -> Option<Pair>
+    requires { Valid (paper view.now) }
+    ensures { result ≡ owner_of (paper view.now) b.0 }
 {
-    let mut g = 0;
-    while g < v.filetype.instances {
-        let begin = v.displacement + origins[g as usize];
-        let owner = owner_in_instance(v, widths, displacements, g, BytePos(begin), b);
-        if let Owner::Pair(_, _) = owner {
-            return owner;
+    for g in 0..view.numbers.filetype.instances {
+        let begin = view.numbers.displacement + view.origins[g as usize];
+        let owner = owner_in_instance(view, g, BytePos(begin), b);
+        if let Some(pair) = owner {
+            return Some(pair);
         }
-        g += 1;
     }
-    Owner::Nobody
+    None
 }

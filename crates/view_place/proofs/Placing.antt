@@ -21,35 +21,11 @@ module _ (size start f n i : ℕ) (hs : size ≤ 1099511627776) (hn : n ≤ 64) 
   before : (size - start - 1) / f * n ≤ 70368744177664
   before = let q = div-le_self (size - start - 1) f in let a : (size - start - 1) / f ≤ 1099511627776 = omega arith in mul-le-mul a hn
 
-  pub before_fits : Fits w64 ((size - start - 1) / f * n)
-  before_fits = record { fits = omega (arith, before) }
-
-  pub last_fits : Fits w64 ((size - start - 1) / f * n + i)
-  last_fits = record { fits = omega (arith, before) }
-
-  pub end_fits : Fits w64 ((size - start - 1) / f * n + i + 1)
-  end_fits = record { fits = omega (arith, before) }
-
 -- the machine's reading of an offset's bits is the offset
 pub offset_read : (z : ℤ) → offset_allowed z ≡ true → to_z w64 (of_z w64 z) ≡ z
 unfolding offset_allowed
 offset_read (pos o) h = to_z-of_z {w = w64} {z = pos o} (record { sfits = omega (arith, ltb-true o 4294967296 h) })
 offset_read (negsuc o) h = not_both h refl
-
--- an index into the origins, scaled by their width
-pub origin_scaled : (i : ℕ) → i < 64 → Fits w64 (i * 8)
-origin_scaled i l = record { fits = omega arith }
-
--- ---- the two answers of a step
-
-module _ (s : Spot) (k f : ℕ) where
-  pub step_inside : s.instance + 1 < k → record { tile = s.tile; instance = s.instance + 1 } ≡ next_spot s k f
-  unfolding next_spot
-  step_inside l = rw (lt-ltb (s.instance + 1) k l)
-
-  pub step_over : k ≤ s.instance + 1 → record { tile = record { 0 = s.tile.0 + f }; instance = 0 } ≡ next_spot s k f
-  unfolding next_spot
-  step_over l = rw (le-ltb (s.instance + 1) k l)
 
 -- ---- the spot of an offset
 
@@ -73,10 +49,6 @@ module _ (v : Numbers) (k : Tiled v) where
 
     pub tile_fits : Fits w64 (v.displacement + at / v.filetype.instances * v.filetype.extent)
     tile_fits = record { fits = omega (arith, tiles, k.start) }
-
-    pub spot_made : record { tile = record { 0 = v.displacement + at / v.filetype.instances * v.filetype.extent }; instance = at % v.filetype.instances } ≡ spot_at v (whole o)
-    unfolding spot_at
-    spot_made = ap (spot_at v) is
 
   module _ (x : ℕ) (s : Spot) (at : s ≡ spot_at v x) where
     spot_tile : s.tile.0 ≡ v.displacement + x / v.filetype.instances * v.filetype.extent
@@ -130,13 +102,7 @@ module _ (v : Numbers) (k : Tiled v) where
 
   -- ---- end of file
 
-  pub origin_below : (i : ℕ) → i < v.filetype.instances → i < 64
-  origin_below i l = omega (arith, k.few)
-
   module _ (ps : List ℕ) where
-    pub start_fits : OriginsLow v ps → (i : ℕ) → i < v.filetype.instances → Fits w64 (v.displacement + get_or ps i 0)
-    start_fits b i l = record { fits = omega (arith, b.origin i l, k.start) }
-
     module _ (size : ℕ) where
       pub end_at_law : (i e : ℕ) → e ≡ end_from (v.displacement + get_or ps i 0) size v.filetype.extent v.filetype.instances i → e ≡ end_at v ps size i
       unfolding end_at

@@ -9,7 +9,7 @@ ghost use Rattle.view.specs.Limits.{max_file_length, offset_allowed};
 ghost use Rattle.view.specs.Types.{whole};
 ghost use Rattle.view_place.specs.Parts.{Tiled, OriginsLow, spot_at, next_spot, SpotValid, place_on, end_on};
 
-use view::{BytePos, Filetype, Numbers, Offset, PerInstance};
+use view::{BytePos, Filetype, Offset, View};
 
 // The tile and the instance of an offset: where its tile begins, and which instance of the tile it is.
 #[derive(Clone, Copy)]
@@ -19,16 +19,17 @@ pub struct Spot {
 }
 
 // The spot of offset `o`, by the one division of an access. For our own crates.
-pub fn spot_of(v: Numbers, o: Offset) -> Spot
-    requires { Tiled v × (offset_allowed o.0 ≡ true) }
-    ensures { result ≡ spot_at v (whole o.0) }
+#[tactic(auto, unfolding(crate::specs::Parts::spot_at))]
+pub fn spot_of(view: &View, o: Offset) -> Spot
+    requires { Tiled view.now.numbers × (offset_allowed o.0 ≡ true) }
+    ensures { result ≡ spot_at view.now.numbers (whole o.0) }
 {
     let at = view::natural(o.0);
-    let instances = v.filetype.instances;
-    let tile = at / instances;
-    let step = tile * v.filetype.extent;
-    let begin = v.displacement + step;
-    let instance = at % instances;
+    let filetype = view.numbers.filetype;
+    let tile = at / filetype.instances;
+    let step = tile * filetype.extent;
+    let begin = view.numbers.displacement + step;
+    let instance = at % filetype.instances;
     Spot {
         tile: BytePos(begin),
         instance: instance,
@@ -36,6 +37,7 @@ pub fn spot_of(v: Numbers, o: Offset) -> Spot
 }
 
 // The spot of the offset after that of `s`, with no division. For our own crates.
+#[tactic(auto, unfolding(crate::specs::Parts::next_spot))]
 pub fn next_spot(s: Spot, f: Filetype) -> Spot
     requires { (s.instance < max_instances) × (s.tile.0 + f.extent < 18446744073709551616) }
     ensures { result ≡ next_spot s f.instances f.extent }
@@ -56,52 +58,49 @@ pub fn next_spot(s: Spot, f: Filetype) -> Spot
 }
 
 // Where the etype at a spot begins. For our own crates.
-pub fn begin_at(origins: &PerInstance, s: Spot) -> BytePos
-    requires { SpotValid origins.now s }
-    ensures { result.0 ≡ s.tile.0 + nth origins.now s.instance }
+pub fn begin_at(view: &View, s: Spot) -> BytePos
+    requires { SpotValid view.now.origins s }
+    ensures { result.0 ≡ s.tile.0 + nth view.now.origins s.instance }
 {
     let instance = s.instance as usize;
     let tile = s.tile;
-    BytePos(tile.0 + origins[instance])
+    BytePos(tile.0 + view.origins[instance])
 }
 
 // The byte at which the etype at offset `o` begins. For our own crates.
-pub fn place_of(v: Numbers, origins: &PerInstance, o: Offset) -> BytePos
-    requires { Tiled v × OriginsLow v origins.now × (offset_allowed o.0 ≡ true) }
-    ensures { result.0 ≡ place_on v origins.now (whole o.0) }
+pub fn place_of(view: &View, o: Offset) -> BytePos
+    requires { Tiled view.now.numbers × OriginsLow view.now.numbers view.now.origins × (offset_allowed o.0 ≡ true) }
+    ensures { result.0 ≡ place_on view.now.numbers view.now.origins (whole o.0) }
 {
-    let spot = spot_of(v, o);
-    begin_at(origins, spot)
+    let spot = spot_of(view, o);
+    begin_at(view, spot)
 }
 
 // One past the last offset that is instance `i` of its tile and begins below `size`, or 0.
+#[tactic(auto, unfolding(view::specs::Parts::end_from))]
 fn end_from(start: BytePos, size: u64, f: Filetype, i: u64) -> u64
     requires { (size ≤ max_file_length) × (f.instances ≤ max_instances) × (i < f.instances) × (0 < f.extent) }
     ensures { result ≡ end_from start.0 size f.extent f.instances i }
 {
-    if start.0 < size {
-        let room = size - start.0 - 1;
-        let tile = room / f.extent;
-        let before = tile * f.instances;
-        let last = before + i;
-        last + 1
-    } else {
-        0
+    if size <= start.0 {
+        return 0;
     }
+    let room = size - start.0 - 1;
+    room / f.extent * f.instances + i + 1
 }
 
 // End of file in etypes, by one division for each instance: places need not rise with the offset. For our own crates.
-pub fn end_of(v: Numbers, origins: &PerInstance, size: u64) -> Offset
-    requires { Tiled v × OriginsLow v origins.now × (size ≤ max_file_length) }
-    ensures { result.0 ≡ pos (end_on v origins.now size) }
+// By index: `end_from` takes the instance's number beside its origin.
+pub fn end_of(view: &View, size: u64) -> Offset
+    requires { Tiled view.now.numbers × OriginsLow view.now.numbers view.now.origins × (size ≤ max_file_length) }
+    ensures { result.0 ≡ pos (end_on view.now.numbers view.now.origins size) }
 {
+    let filetype = view.numbers.filetype;
     let mut end = 0;
-    let mut i = 0;
-    while i < v.filetype.instances {
-        let start = v.displacement + origins[i as usize];
-        let one = end_from(BytePos(start), size, v.filetype, i);
-        end = laws::larger(end, one);
-        i += 1;
+    for i in 0..filetype.instances {
+        let start = view.numbers.displacement + view.origins[i as usize];
+        let one = end_from(BytePos(start), size, filetype, i);
+        end = end.max(one);
     }
     view::to_offset(end)
 }

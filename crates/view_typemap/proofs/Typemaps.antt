@@ -1,10 +1,8 @@
 -- The typemaps that the lists of a valid view's record make are those of the view on paper.
 use Rattle.laws.proofs.Prelude.{ℕ, ◌+◌, ◌*◌, ◌≤◌, ◌≡◌, refl, sym, ap, ◌∙◌, List, arith, mod-eq_of_lt, div-eq_of_lt, one-mul, replicate, ℤ, pos, front, run_below, run_div, run_mod, store_same}
 use Rattle.view.specs.declared.View.{View}
-use Rattle.view.specs.declared.Numbers.{Numbers}
 use Rattle.view.specs.Types.{paper, entries, width_at, displacement_at}
 use Rattle.view.specs.Acceptance.{Valid}
-use Rattle.view.specs.Parts.{view_with}
 use Rattle.view.proofs.Paper.{paper_entries, paper_file_entries, paper_width, paper_displacement, paper_file_width, paper_file_displacement}
 use Rattle.view.proofs.Accepted.{facts}
 use Rattle.view.proofs.Held.{some_entry, few_entries, record_entry, record_few}
@@ -12,37 +10,37 @@ use Rattle.view_typemap.specs.Parts.{group_width, group_displacement, Room, Sign
 
 -- ---- what the loops ask
 
-module _ (v : Numbers) (ws ds ps : List ℕ) (valid : Valid (paper (view_with v ws ds ps))) where
-  pub etype_room : (len : ℕ) → entries (paper (view_with v ws ds ps)).etype ≤ len → Room v.etype.entries 1 len
+module _ (v : View) (valid : Valid (paper v)) where
+  pub etype_room : (len : ℕ) → entries (paper v).etype ≤ len → Room v.numbers.etype.entries 1 len
   etype_room len l = record {
-    some = some_entry (view_with v ws ds ps) valid;
-    few = few_entries (view_with v ws ds ps) valid;
+    some = some_entry v valid;
+    few = few_entries v valid;
     groups = omega arith;
-    room = omega (arith, paper_entries (view_with v ws ds ps), one-mul v.etype.entries);
+    room = omega (arith, paper_entries v, one-mul v.numbers.etype.entries);
   }
 
-  pub filetype_room : (len : ℕ) → entries (paper (view_with v ws ds ps)).filetype ≤ len → Room v.etype.entries v.filetype.instances len
+  pub filetype_room : (len : ℕ) → entries (paper v).filetype ≤ len → Room v.numbers.etype.entries v.numbers.filetype.instances len
   filetype_room len l = record {
-    some = some_entry (view_with v ws ds ps) valid;
-    few = few_entries (view_with v ws ds ps) valid;
-    groups = record_few (view_with v ws ds ps) valid;
-    room = omega (arith, paper_file_entries (view_with v ws ds ps));
+    some = some_entry v valid;
+    few = few_entries v valid;
+    groups = record_few v valid;
+    room = omega (arith, paper_file_entries v);
   }
 
-  pub etype_signed : Signed (replicate 64 0) ds v.etype.entries 1
+  pub etype_signed : Signed (replicate 64 0) v.displacements v.numbers.etype.entries 1
   etype_signed = record {
     small = λ g e lg le.
         let z : g ≡ 0 = omega arith in
-        rw z (omega (arith, record_entry (view_with v ws ds ps) valid e le));
+        rw z (omega (arith, record_entry v valid e le));
   }
 
-  pub filetype_signed : Signed ps ds v.etype.entries v.filetype.instances
+  pub filetype_signed : Signed v.origins v.displacements v.numbers.etype.entries v.numbers.filetype.instances
   filetype_signed = record {
     small = λ g e lg le.
-        let n = v.etype.entries in
-        let b = run_below v.filetype.instances n g e lg le in
-        let d = rw (run_div n g e le, run_mod n g e le) at (paper_file_displacement (view_with v ws ds ps) (g * n + e) b) in
-        omega (arith, (facts (paper (view_with v ws ds ps)) valid).file_ends (g * n + e) (omega (arith, paper_file_entries (view_with v ws ds ps))));
+        let n = v.numbers.etype.entries in
+        let b = run_below v.numbers.filetype.instances n g e lg le in
+        let d = rw (run_div n g e le, run_mod n g e le) at (paper_file_displacement v (g * n + e) b) in
+        omega (arith, (facts (paper v) valid).file_ends (g * n + e) (omega (arith, paper_file_entries v)));
   }
 
 -- ---- what they store

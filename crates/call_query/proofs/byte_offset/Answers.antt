@@ -9,8 +9,8 @@ returns-then-not-handle_valid c = search place_handle
 pub returns-then-not-offset_allowed : goal.returns-then-not-offset_allowed
 returns-then-not-offset_allowed c = search place_range
 
-pub place_of-place-requires : goal.place_of-place-requires
-place_of-place-requires c = (search query_tiled, search query_origins, unflag_true _ _ c.offset_allowed.ensures (ap not c.if-not-offset_allowed.false))
+pub place_of-requires : goal.place_of-requires
+place_of-requires c = (search query_tiled, search query_origins, unflag_true _ _ c.offset_allowed.ensures (ap not c.if-not-offset_allowed.false))
 
 pub returns : goal.returns
 returns c = search place_found

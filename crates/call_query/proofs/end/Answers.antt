@@ -5,8 +5,8 @@ use Rattle.call_query.proofs.end.Goals as goal
 pub returns-then-not-file_valid : goal.returns-then-not-file_valid
 returns-then-not-file_valid c = search end_handle
 
-pub end_of-end-requires : goal.end_of-end-requires
-end_of-end-requires c = (search file_tiled, search file_origins, search file_size)
+pub end_of-requires : goal.end_of-requires
+end_of-requires c = (search file_tiled, search file_origins, search file_size)
 
 pub returns : goal.returns
 returns c = search end_found

@@ -8,8 +8,8 @@ returns-then-not-handle_valid c = search owner_handle
 pub returns-then-not-allows_writing : goal.returns-then-not-allows_writing
 returns-then-not-allows_writing c = search owner_mode
 
-pub owner_of-owner-requires : goal.owner_of-owner-requires
-owner_of-owner-requires c = search query_valid
+pub owner_of-requires : goal.owner_of-requires
+owner_of-requires c = search query_valid
 
 pub returns : goal.returns
 returns c = search owner_found

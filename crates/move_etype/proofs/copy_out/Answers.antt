@@ -1,25 +1,9 @@
 -- `copy_out` copies entry after entry; together they are the packed data. Assumes nothing.
-use Rattle.laws.proofs.Prelude.{◌-◌}
 use Rattle.move_etype.proofs.Copying.{copying_width, target_inside, file_inside, packed_inside, packed_fits, copying_small, copying}
 use Rattle.move_etype.proofs.copy_out.Goals as goal
 
 pub loop-i-init : goal.loop-i-init
 loop-i-init c = search copying
-
-pub offset_bounds-widths-i : goal.offset_bounds-widths-i
-offset_bounds-widths-i c = search copying
-
-pub bounds-widths-i : goal.bounds-widths-i
-bounds-widths-i c = search copying
-
-pub offset_bounds-displacements-i : goal.offset_bounds-displacements-i
-offset_bounds-displacements-i c = search copying
-
-pub bounds-displacements-i : goal.bounds-displacements-i
-bounds-displacements-i c = search copying
-
-pub overflow_add-from : goal.overflow_add-from
-overflow_add-from c = search copying
 
 pub copy_run-requires : goal.copy_run-requires
 copy_run-requires c = (record { source = search file_inside; target = search (target_inside, packed_inside) }, search copying_width)
@@ -27,17 +11,8 @@ copy_run-requires c = (record { source = search file_inside; target = search (ta
 pub overflow_add-packed : goal.overflow_add-packed
 overflow_add-packed c = search (packed_fits, copying_small)
 
-pub overflow_add-i : goal.overflow_add-i
-overflow_add-i c = search copying
-
-pub loop-i-smaller : goal.loop-i-smaller
-loop-i-smaller c = search copying
-
 pub loop-i-preserved : goal.loop-i-preserved
 loop-i-preserved c = search copying
-
-pub shape_of-part : goal.shape_of-part
-shape_of-part c = search copying
 
 pub returns : goal.returns
 returns c = search copying

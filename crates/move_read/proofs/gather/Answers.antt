@@ -1,9 +1,8 @@
 -- `gather` copies each etype that lies in the file and stops at the first that does not. Assumes nothing.
-use Rattle.laws.proofs.Prelude.{◌-◌, rules}
 use Rattle.view.proofs.Etypes.{widths_valid}
 use Rattle.move_read.proofs.Etypes.{entries_valid}
 use Rattle.move_read.proofs.Gathering.{move_none, gathering_none, gather_all, gather_end_fits, gather_stop, from_fits, from_inside, gather_lies, gather_more}
-use Rattle.move_read.proofs.Walking.{walk_fits, walk_held, move_offset, last_fits, lent_tiled, lent_valid, lent_step}
+use Rattle.move_read.proofs.Walking.{walk_held, move_offset, move_tiled, walk_valid, walk_step}
 use Rattle.move_read.proofs.gather.Goals as goal
 
 pub returns-then-count-eq0 : goal.returns-then-count-eq0
@@ -15,17 +14,14 @@ data_size-packed-requires c = search (widths_valid, entries_valid)
 pub reach-reach-requires : goal.reach-reach-requires
 reach-reach-requires c = search entries_valid
 
-pub overflow_add-last : goal.overflow_add-last
-overflow_add-last c = search last_fits
-
 pub spot_of-spot-requires : goal.spot_of-spot-requires
-spot_of-spot-requires c = search (rules, lent_tiled, move_offset)
+spot_of-spot-requires c = search (move_tiled, move_offset)
 
-pub loop-x-init : goal.loop-x-init
-loop-x-init c = search (rules, gathering_none)
+pub loop-t-init : goal.loop-t-init
+loop-t-init c = search gathering_none
 
 pub begin_at-place-requires : goal.begin_at-place-requires
-begin_at-place-requires c = search lent_valid
+begin_at-place-requires c = search walk_valid
 
 pub overflow_add-end : goal.overflow_add-end
 overflow_add-end c = search gather_end_fits
@@ -43,16 +39,13 @@ pub slice_bounds-copy_out-start : goal.slice_bounds-copy_out-start
 slice_bounds-copy_out-start c = search from_inside
 
 pub copy_out-requires : goal.copy_out-requires
-copy_out-requires c = gather_lies _ _ _ _ _ _ _ _ _ _ _ c.loop-x.invariant c.loop-x-test.true _ c.begin_at-place.ensures c.if-size-end.false
+copy_out-requires c = gather_lies _ _ _ _ _ _ _ _ _ _ _ c.loop-t.invariant c.loop-t-test.true _ c.begin_at-place.ensures c.if-size-end.false
 
 pub next_spot-spot-requires : goal.next_spot-spot-requires
-next_spot-spot-requires c = search (walk_held, lent_step)
+next_spot-spot-requires c = search (walk_held, walk_step)
 
-pub overflow_add-x : goal.overflow_add-x
-overflow_add-x c = search walk_fits
-
-pub loop-x-preserved : goal.loop-x-preserved
-loop-x-preserved c = search gather_more
+pub loop-t-preserved : goal.loop-t-preserved
+loop-t-preserved c = search gather_more
 
 pub returns : goal.returns
 returns c = search gather_all

@@ -1,21 +1,9 @@
--- `copy_run` copies by the width: each way stores as many bytes. Assumes nothing.
-use Rattle.move_run.proofs.Running.{run_of, run_first, run_one}
+-- `copy_run` copies by the width: the one left is 1. Assumes nothing.
+use Rattle.move_run.proofs.Running.{one_inside, one_copied}
 use Rattle.move_run.proofs.copy_run.Goals as goal
 
-pub bounds-source-from : goal.bounds-source-from
-bounds-source-from c = search run_first
+pub copy_n-requires-in_default : goal.copy_n-requires-in_default
+copy_n-requires-in_default c = search one_inside
 
-pub bounds-target-to : goal.bounds-target-to
-bounds-target-to c = search run_first
-
-pub returns-then-width-eq4 : goal.returns-then-width-eq4
-returns-then-width-eq4 c = search run_of
-
-pub returns-then-width-eq8 : goal.returns-then-width-eq8
-returns-then-width-eq8 c = search run_of
-
-pub returns-then-width-eq2 : goal.returns-then-width-eq2
-returns-then-width-eq2 c = search run_of
-
-pub returns-else-width-eq2 : goal.returns-else-width-eq2
-returns-else-width-eq2 c = search run_one
+pub returns-in_default : goal.returns-in_default
+returns-in_default c = search one_copied

@@ -1,25 +1,10 @@
--- `instances_step` passes the instances in order and leaves at the first that reaches past the next. Assumes nothing.
-use Rattle.laws.proofs.Prelude.{◌-◌, rules, passed_fails, passed_holds, passed_more, passed_none}
-use Rattle.rule_instances.specs.Parts.{origins_step}
-use Rattle.rule_instances.proofs.Stepping.{next_fits, step_false, step_fits, step_true}
+-- `instances_step` compares each instance but the last with the next one. Assumes nothing.
+use Rattle.laws.proofs.Prelude.{rules, refl}
+use Rattle.std.proofs.Common.{tests}
+use Rattle.rule_instances.specs.Parts.{step_at, origins_step}
+use Rattle.rule_instances.proofs.Stepping.{each_told}
 use Rattle.rule_instances.proofs.instances_step.Goals as goal
 
-pub loop-g-init : goal.loop-g-init
-loop-g-init c = search (rules, passed_none)
-
-pub overflow_add-end : goal.overflow_add-end
-overflow_add-end c = search step_fits
-
-pub overflow_add-begin : goal.overflow_add-begin
-overflow_add-begin c = search next_fits
-
-pub returns-then-begin-end : goal.returns-then-begin-end
-unfolding origins_step
-returns-then-begin-end c = search (passed_fails, step_false)
-
-pub loop-g-preserved : goal.loop-g-preserved
-loop-g-preserved c = search (rules, passed_more, step_true)
-
 pub returns : goal.returns
-unfolding origins_step
-returns c = search passed_holds
+unfolding origins_step step_at
+returns c = each_told _ _ _ _ _ refl c.all.ensures.ran (λ x q k. search (rules, tests)) (λ x q k. search (rules, tests))

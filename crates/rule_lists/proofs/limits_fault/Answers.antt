@@ -1,56 +1,42 @@
 -- `limits_fault` follows checks 2 to 6 in their order. Assumes nothing.
-use Rattle.laws.proofs.Prelude.{refl, ◌∙◌, rules, check_yes, check_no, also_true, also_first, also_false, unflag_true, unflag_false, ap, not}
-use Rattle.view.specs.Parts.{named_by}
-use Rattle.view.proofs.Telling.{fault_by_law}
+use Rattle.laws.proofs.Prelude.{refl, sym, ◌∙◌, check_yes, check_no, also_true, also_first, also_false, unflag_true}
+use Rattle.view.specs.declared.refusals.Refusal.TheVariants.{Extent, Entry}
+use Rattle.view.specs.Parts.{named_by, refusal_number}
 use Rattle.rule_lists.specs.Parts.{limits_fault}
-use Rattle.rule_lists.proofs.Limiting.{up_to6, chain_begins}
-use Rattle.rule_lists.proofs.Lending.{displacement_yes, displacement_no, extents_yes, extents_no, entries_yes, entries_no, etype_named, filetype_named, etype_pairs, filetype_pairs}
+use Rattle.rule_lists.proofs.Limiting.{up_to6, chain_begins, from_entries}
+use Rattle.rule_lists.proofs.Refusing.{refused_by, granted_by}
+use Rattle.rule_lists.proofs.Lending.{displacement_yes, extents_yes, extents_no, entry_found, none_found, etype_named, filetype_named, etype_pairs, filetype_pairs}
 use Rattle.rule_lists.proofs.limits_fault.Goals as goal
 
-pub returns-then-not-native : goal.returns-then-not-native
-unfolding limits_fault up_to6 named_by
-returns-then-not-native c = fault_by_law _ 2 _ _ _ (search rules) refl (check_no _ _ _ _ (search unflag_false) refl ∙ chain_begins _ _)
-
-pub returns-then-not-placed : goal.returns-then-not-placed
-unfolding limits_fault up_to6 named_by
-returns-then-not-placed c = fault_by_law _ 3 _ _ _ (search rules) refl (check_yes _ _ _ _ (search unflag_true) (check_no _ _ _ _ (search displacement_no) refl) ∙ chain_begins _ _)
-
-pub returns-then-not-counted : goal.returns-then-not-counted
-unfolding limits_fault up_to6 named_by
-returns-then-not-counted c = fault_by_law _ 4 _ _ _ (search rules) refl (check_yes _ _ _ _ (search unflag_true) (check_yes _ _ _ _ (search displacement_yes) (check_no _ _ _ _ (search unflag_false) refl)) ∙ chain_begins _ _)
-
-pub returns-then-not-extents : goal.returns-then-not-extents
-unfolding limits_fault up_to6 named_by
-returns-then-not-extents c =
-    fault_by_law _ 5 _ _ _ (search rules) refl
+pub returns-then-not-extents_allowed : goal.returns-then-not-extents_allowed
+unfolding limits_fault up_to6 named_by refusal_number
+returns-then-not-extents_allowed c =
+    refused_by _ _ Extent _ _ _ c.unnamed-then-not-extents_allowed.ensures refl
     (check_yes _ _ _ _ (search unflag_true) (check_yes _ _ _ _ (search displacement_yes) (check_yes _ _ _ _ (search unflag_true)
     (check_no _ _ _ _ (search extents_no) refl))) ∙ chain_begins _ _)
 
-pub first_not_allowed-i-requires : goal.first_not_allowed-i-requires
-first_not_allowed-i-requires c =
-    etype_pairs _ _ _ _ _ c.counts_allowed-counted.ensures (ap not c.if-not-counted.false)
+pub returns-in-Some : goal.returns-in-Some
+unfolding limits_fault refusal_number
+returns-in-Some c =
+    let n = sym c.counts_allowed.ensures ∙ c.if-not-counts_allowed.false in
+    let f = entry_found _ _ c.args.ex (etype_pairs _ _ _ _ n) _ c.in-Some.ensures in
+    refused_by _ _ Entry _ _ _ c.of_etype.ensures (etype_named _ _ _ _ _ _ _ _ f.0 f.1)
+    (from_entries _ _ _ (search unflag_true) (search displacement_yes) n (search extents_yes) (check_no _ _ _ _ (also_first _ _ f.2) refl))
 
-pub returns-then-i-ew : goal.returns-then-i-ew
-unfolding limits_fault up_to6
-returns-then-i-ew c =
-    fault_by_law _ 6 _ _ _ c.of_etype.ensures (search etype_named)
-    (check_yes _ _ _ _ (search unflag_true) (check_yes _ _ _ _ (search displacement_yes) (check_yes _ _ _ _ (search unflag_true)
-    (check_yes _ _ _ _ (search extents_yes) (check_no _ _ _ _ (also_first _ _ (search entries_no)) refl)))) ∙ chain_begins _ _)
-
-pub first_not_allowed-j-requires : goal.first_not_allowed-j-requires
-first_not_allowed-j-requires c =
-    filetype_pairs _ _ _ _ _ c.counts_allowed-counted.ensures (ap not c.if-not-counted.false)
-
-pub returns-then-j-fw : goal.returns-then-j-fw
-unfolding limits_fault up_to6
-returns-then-j-fw c =
-    fault_by_law _ 6 _ _ _ c.of_filetype.ensures (search filetype_named)
-    (check_yes _ _ _ _ (search unflag_true) (check_yes _ _ _ _ (search displacement_yes) (check_yes _ _ _ _ (search unflag_true)
-    (check_yes _ _ _ _ (search extents_yes) (check_no _ _ _ _ (also_false _ _ (search entries_no)) refl)))) ∙ chain_begins _ _)
+pub returns-in-Some-first_not_allowed : goal.returns-in-Some-first_not_allowed
+unfolding limits_fault refusal_number
+returns-in-Some-first_not_allowed c =
+    let n = sym c.counts_allowed.ensures ∙ c.if-not-counts_allowed.false in
+    let e = none_found _ _ c.args.ex (etype_pairs _ _ _ _ n) (sym c.in_default.is ∙ c.first_not_allowed.ensures) in
+    let f = entry_found _ _ c.args.fx (filetype_pairs _ _ _ _ n) _ c.in-Some-first_not_allowed.ensures in
+    refused_by _ _ Entry _ _ _ c.of_filetype.ensures (filetype_named _ _ _ _ _ _ _ _ e.1 f.0)
+    (from_entries _ _ _ (search unflag_true) (search displacement_yes) n (search extents_yes) (check_no _ _ _ _ (also_false _ _ f.2) refl))
 
 pub returns : goal.returns
-unfolding limits_fault up_to6 named_by
+unfolding limits_fault named_by
 returns c =
-    fault_by_law _ 0 _ _ _ (search rules) refl
-    (check_yes _ _ _ _ (search unflag_true) (check_yes _ _ _ _ (search displacement_yes) (check_yes _ _ _ _ (search unflag_true)
-    (check_yes _ _ _ _ (search extents_yes) (check_yes _ _ _ _ (also_true (search entries_yes) (search entries_yes)) refl)))) ∙ chain_begins _ _)
+    let n = sym c.counts_allowed.ensures ∙ c.if-not-counts_allowed.false in
+    let e = none_found _ _ c.args.ex (etype_pairs _ _ _ _ n) (sym c.in_default.is ∙ c.first_not_allowed.ensures) in
+    let f = none_found _ _ c.args.fx (filetype_pairs _ _ _ _ n) (sym c.in_default-first_not_allowed.is ∙ c.first_not_allowed-2.ensures) in
+    granted_by _ _ _ _ refl
+    (from_entries _ _ _ (search unflag_true) (search displacement_yes) n (search extents_yes) (check_yes _ _ _ _ (also_true e.0 f.0) refl))

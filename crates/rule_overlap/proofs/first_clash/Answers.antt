@@ -1,24 +1,19 @@
 -- `first_clash` makes the entries' keys, and searches them if a sorted copy has keys that clash. Assumes nothing.
-use Rattle.rule_overlap.proofs.Filling.{list_keyed, list_long, list_valid, list_none, list_first}
+use Rattle.laws.proofs.Prelude.{rules, store_none, store_more}
+use Rattle.rule_overlap.proofs.Filling.{list_valid, list_none, list_first}
 use Rattle.rule_overlap.proofs.first_clash.Goals as goal
 
-pub put_keys-requires : goal.put_keys-requires
-put_keys-requires c = search list_keyed
+pub loop-i-init : goal.loop-i-init
+loop-i-init c = search (rules, store_none)
 
-pub slice_bounds-none_clash-end : goal.slice_bounds-none_clash-end
-slice_bounds-none_clash-end c = search list_long
+pub loop-i-preserved : goal.loop-i-preserved
+loop-i-preserved c = search (rules, store_more)
 
 pub none_clash-requires : goal.none_clash-requires
-none_clash-requires c = search list_valid
+none_clash-requires c = search (rules, list_valid)
 
 pub returns-then-none_clash : goal.returns-then-none_clash
-returns-then-none_clash c = search list_none
-
-pub slice_bounds-first_key-end : goal.slice_bounds-first_key-end
-slice_bounds-first_key-end c = search list_long
-
-pub first_key-requires : goal.first_key-requires
-first_key-requires c = search list_valid
+returns-then-none_clash c = search (rules, list_none)
 
 pub returns : goal.returns
-returns c = search list_first
+returns c = search (rules, list_first)

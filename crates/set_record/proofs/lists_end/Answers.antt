@@ -3,5 +3,4 @@ use Rattle.set_record.proofs.Setting.{lists_end_is}
 use Rattle.set_record.proofs.lists_end.Goals as goal
 
 pub returns : goal.returns
-returns c =
-    lists_end_is _ _ _ _ _ c.list_length-n1.ensures c.list_length-n2.ensures c.list_length-n3.ensures c.list_length-n4.ensures
+returns c = lists_end_is _ _ c.list_lengths.ensures

@@ -1,22 +1,16 @@
--- `field_at` follows the definition along its three tests. Assumes nothing.
-use Rattle.laws.proofs.Prelude.{arith}
-use Rattle.tagged_fields.proofs.Bytes.{field_end, cut_header, cut_body, field_whole}
+-- `field_at` follows the definition along what stands from the place on. Assumes nothing.
+use Rattle.laws.proofs.Prelude.{◌∙◌}
+use Rattle.tagged_fields.proofs.Bytes.{rest_is, rest_end, rest_header, rest_cut, rest_whole}
 use Rattle.tagged_fields.proofs.field_at.Goals as goal
 
-pub returns-then-s-at : goal.returns-then-s-at
-returns-then-s-at c = let a = c.args in field_end a.s.now a.at (omega arith)
+pub returns-then-rest-length : goal.returns-then-rest-length
+returns-then-rest-length c = rest_cut _ _ _ (rest_is _ _ _ c.min.ensures) c.in-len3-up.len_at_least _ (c.from-length.ensures ∙ c.from_le_bytes.ensures) c.if-rest-length.true
 
-pub returns-then-left-lt-HEADER_BYTES : goal.returns-then-left-lt-HEADER_BYTES
-returns-then-left-lt-HEADER_BYTES c = let a = c.args in cut_header a.s.now a.at (omega arith) (omega arith)
+pub returns-in-empty : goal.returns-in-empty
+returns-in-empty c = rest_end _ _ _ (rest_is _ _ _ c.min.ensures) c.in-empty.len_below
 
-pub returns-then-left-length : goal.returns-then-left-length
-returns-then-left-length c =
-    let n = c.number_from-length in
-    let a = c.args in
-    cut_body a.s.now a.at (omega arith) (omega arith) n.result n.ensures (omega arith)
+pub returns-in_default : goal.returns-in_default
+returns-in_default c = rest_header _ _ _ (rest_is _ _ _ c.min.ensures) c.in_default.len_at_least c.in_default.len_below
 
-pub returns : goal.returns
-returns c =
-    let n = c.number_from-length in
-    let a = c.args in
-    field_whole a.s.now a.at (omega arith) (omega arith) n.result n.ensures (omega arith)
+pub returns-else-rest-length : goal.returns-else-rest-length
+returns-else-rest-length c = rest_whole _ _ _ (rest_is _ _ _ c.min.ensures) c.in-len3-up.len_at_least _ (c.from-length.ensures ∙ c.from_le_bytes.ensures) c.if-rest-length.false

@@ -1,9 +1,6 @@
 -- Each turn takes one record of at most 65,538 bytes.
-use Rattle.std.proofs.Common.{◌+◌, ◌*◌, ◌≤◌}
+use Rattle.std.proofs.Common.{◌*◌, ◌≤◌}
 use Rattle.test_conformance.proofs.run.Given as goal
 
-abbrev pub invariant-loop-left : goal.invariant-loop-left
-invariant-loop-left g l = l.place + l.left * 65538 ≤ 65538000000
-
-abbrev pub decreases-loop-left : goal.decreases-loop-left
-decreases-loop-left g l = l.left
+abbrev pub invariant-loop-i : goal.invariant-loop-i
+invariant-loop-i g l = l.place ≤ l._i * 65538

@@ -11,8 +11,8 @@ overflow_add-start c = search start_fits
 pub owner_in_entry-owner-requires : goal.owner_in_entry-owner-requires
 owner_in_entry-owner-requires c = search data_small
 
-pub returns-in-Pair : goal.returns-in-Pair
-returns-in-Pair c = search tried_stop
+pub returns-in-Some : goal.returns-in-Some
+returns-in-Some c = search tried_stop
 
 pub overflow_add-packed : goal.overflow_add-packed
 overflow_add-packed c = search packed_fits

@@ -6,11 +6,11 @@ use Rattle.view_owner.proofs.owner_of.Goals as goal
 pub loop-g-init : goal.loop-g-init
 loop-g-init c = search missed_none
 
-pub offset_bounds-origins-g : goal.offset_bounds-origins-g
-offset_bounds-origins-g c = search origin_scaled
+pub offset_bounds-view-g : goal.offset_bounds-view-g
+offset_bounds-view-g c = search origin_scaled
 
-pub bounds-origins-g : goal.bounds-origins-g
-bounds-origins-g c = search origin_held
+pub bounds-view-g : goal.bounds-view-g
+bounds-view-g c = search origin_held
 
 pub overflow_add-begin : goal.overflow_add-begin
 overflow_add-begin c = search begin_fits
@@ -18,8 +18,8 @@ overflow_add-begin c = search begin_fits
 pub owner_in_instance-owner-requires : goal.owner_in_instance-owner-requires
 owner_in_instance-owner-requires c = search instance_valid
 
-pub returns-in-Pair : goal.returns-in-Pair
-returns-in-Pair c = search lookup_stop
+pub returns-in-Some : goal.returns-in-Some
+returns-in-Some c = search lookup_stop
 
 pub loop-g-preserved : goal.loop-g-preserved
 loop-g-preserved c = search lookup_more

@@ -1,5 +1,5 @@
 -- `spot_of` divides the offset by the number of instances. Assumes nothing.
-use Rattle.view_place.proofs.Placing.{step_fits, tile_fits, spot_made}
+use Rattle.view_place.proofs.Placing.{step_fits, tile_fits}
 use Rattle.view_place.proofs.spot_of.Goals as goal
 
 pub overflow_mul-step : goal.overflow_mul-step
@@ -7,6 +7,3 @@ overflow_mul-step c = search step_fits
 
 pub overflow_add-begin : goal.overflow_add-begin
 overflow_add-begin c = search tile_fits
-
-pub returns : goal.returns
-returns c = search spot_made

@@ -2,8 +2,8 @@
 use Rattle.file.proofs.Answering.{seek_refused_law, seek_done}
 use Rattle.file.proofs.Handle.seek.Goals as goal
 
-pub returns-then-sought-ne0 : goal.returns-then-sought-ne0
-returns-then-sought-ne0 c = search seek_refused_law
+pub returns-in-Ok : goal.returns-in-Ok
+returns-in-Ok c = seek_done _ _ c.lent.ensures _ _ _ _ c.ranges.by _ c.in-Ok.ensures
 
-pub returns : goal.returns
-returns c = search seek_done
+pub returns-in-Err : goal.returns-in-Err
+returns-in-Err c = seek_refused_law _ _ c.lent.ensures _ _ _ _ c.ranges.by _ c.in-Err.ensures _ c.seek_refused.ensures

@@ -1,6 +1,0 @@
--- `displacement_at` casts a number below 2^63, which the signed type reads as itself. Assumes nothing.
-use Rattle.laws.proofs.Prelude.{arith, w64, to_z_pos}
-use Rattle.recipe_place.proofs.displacement_at.Goals as goal
-
-pub returns : goal.returns
-returns c = to_z_pos w64 (omega arith)
