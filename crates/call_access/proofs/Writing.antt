@@ -112,10 +112,10 @@ module _ (mode pointer : ℕ) (v : View) (file : List ℕ) (r : FileRecord) (o :
 module _ (mode pointer : ℕ) (v : View) (file : List ℕ) (r : FileRecord) (o : ℤ) (c : ℕ) (buf : List ℕ) where
   pub write_refused : (e : Refusal) → WriteChecked (paper_handle mode pointer v) (length file) r o c (length buf) (Err e) → WriteMade (paper_handle mode pointer v) file file r o c buf (Err e)
   unfolding refusal_in
-  write_refused e k = record { refusal = k.refusal; file = tt; bytes = sym (granted_no _ _ file (refused_some ℕ e)) }
+  write_refused e k = record { refusal = k.refusal; count = tt; file = tt; bytes = sym (granted_no _ _ file (refused_some ℕ e)) }
 
-  pub write_made : (end : BytePos) → WriteChecked (paper_handle mode pointer v) (length file) r o c (length buf) (Ok end) → (filled : List ℕ) (grown : FileRecord) → Grown r end.0 file filled grown → (after : List ℕ) → after ≡ store (file_byte (paper v) (whole o)) (nth buf) (c * data_size (paper v)) filled → WriteMade (paper_handle mode pointer v) file after r o c buf (Ok grown)
+  pub write_made : (end : BytePos) → WriteChecked (paper_handle mode pointer v) (length file) r o c (length buf) (Ok end) → (filled : List ℕ) (grown : FileRecord) → Grown r end.0 file filled grown → (after : List ℕ) → after ≡ store (file_byte (paper v) (whole o)) (nth buf) (c * data_size (paper v)) filled → WriteMade (paper_handle mode pointer v) file after r o c buf (Ok (record { count = c; file = grown }))
   unfolding granted refusal_in
   write_made end k filled grown f after s =
       let d = write_done v r grown o c end.0 buf file filled after k.end f s in
-      record { refusal = k.refusal; file = d.0; bytes = d.1 }
+      record { refusal = k.refusal; count = refl; file = d.0; bytes = d.1 }

@@ -9,6 +9,7 @@ use Rattle.handle.specs.declared.FileRecord.{FileRecord}
 use Rattle.handle.specs.Handles.{PaperHandle, with_size}
 use Rattle.move_read.specs.Parts.{moved, read_into, write_end, new_size, written}
 use Rattle.call_checks.specs.Refusals.{read_refusal, write_refusal}
+use Rattle.call_access.specs.declared.WriteOutcome.{WriteOutcome}
 
 -- a read of c at o: how many etypes it moved, and the buffer after it
 pub record ReadMade (h : PaperHandle) (file : List ℕ) (r : FileRecord) (o : ℤ) (c : ℕ) (before after : List ℕ) (a : Result ℕ Refusal) : Type 0 where
@@ -21,8 +22,9 @@ pub record WriteChecked (h : PaperHandle) (len : ℕ) (r : FileRecord) (o : ℤ)
   pub refusal : refusal_in j ≡ write_refusal h len r o c buffer
   pub end : IfOk j (λ e. e.0 ≡ write_end h.view (whole o) c)
 
--- a write of c at o: the file's record and its bytes after it
-pub record WriteMade (h : PaperHandle) (before after : List ℕ) (r : FileRecord) (o : ℤ) (c : ℕ) (buffer : List ℕ) (a : Result FileRecord Refusal) : Type 0 where
+-- a write of c at o: how many etypes it moved, and the file's record and its bytes after it
+pub record WriteMade (h : PaperHandle) (before after : List ℕ) (r : FileRecord) (o : ℤ) (c : ℕ) (buffer : List ℕ) (a : Result WriteOutcome Refusal) : Type 0 where
   pub refusal : refusal_in a ≡ write_refusal h (length before) r o c (length buffer)
-  pub file : IfOk a (λ f. f ≡ with_size r (new_size h.view r.size (whole o) c))
+  pub count : IfOk a (λ w. w.count ≡ c)
+  pub file : IfOk a (λ w. w.file ≡ with_size r (new_size h.view r.size (whole o) c))
   pub bytes : after ≡ granted (refusal_in a) (written h.view r.size (whole o) c buffer before) before

@@ -42,14 +42,21 @@ fn checked(h: HandleRef, f: FileNumbers, access: Access, room: u64) -> Result<By
     Ok(end)
 }
 
-// Writes the etypes of an access from the buffer, all of them or none, and answers the file's record after it: the gap is filled first, whole, then the data are stored.
+// What a granted write answers: how many etypes it moved, and the file's record after it.
+#[derive(Clone, Copy)]
+pub struct WriteOutcome {
+    pub count: u64,
+    pub file: FileRecord,
+}
+
+// Writes the etypes of an access from the buffer, all of them or none: the gap is filled first, whole, then the data are stored.
 pub fn write(
     h: HandleRef,
     file: &mut [u8],
     rec: FileRecord,
     access: Access,
     buf: &[u8],
-) -> Result<FileRecord, Refusal>
+) -> Result<WriteOutcome, Refusal>
     ensures { WriteMade (lent_handle h.entry) file.old file.new rec access.offset.0 access.count buf.now result }
 {
     let f = FileNumbers {
@@ -59,5 +66,8 @@ pub fn write(
     let end = checked(h, f, access, buf.len() as u64)?;
     let grown = move_write::grow(file, rec, end);
     move_write::scatter(h.view, file, access, buf);
-    Ok(grown)
+    Ok(WriteOutcome {
+        count: access.count,
+        file: grown,
+    })
 }

@@ -85,11 +85,11 @@ module _ (mode pointer : ℕ) (v : View) (len : ℕ) (r : FileRecord) (t : Bool)
         unfolding whole
         goes = a ∙ ap target_at (ap (λ (x : ℤ). pos (whole base.0) +ℤ x) (to_z-of_z w) ∙ ap (λ (x : ℤ). pos (whole x) +ℤ z) b ∙ sym (target_is (valid n)))
 
-        seek_range : g ≡ None → Sought (paper_handle mode pointer v) len r z whence (Err Range)
+        pub seek_range : g ≡ None → Sought (paper_handle mode pointer v) len r z whence (Err Range)
         unfolding seek_refusal refusal_in refusal_number target_at
         seek_range e = record { refusal = check_yes _ 1 _ 12 (passed n) (check_yes _ 15 _ 12 (le-leb whence 2 l) (check_no _ 12 _ 12 (none_is _ _ (sym e ∙ goes)) refl)); pointer = tt }
 
-        seek_done : (p : ℕ) → g ≡ Some p → Sought (paper_handle mode pointer v) len r z whence (Ok p)
+        pub seek_done : (p : ℕ) → g ≡ Some p → Sought (paper_handle mode pointer v) len r z whence (Ok p)
         unfolding seek_refusal refusal_in refusal_number target_at
         seek_done p e =
             let y = some_is _ _ p (sym e ∙ goes) in

@@ -25,7 +25,7 @@ use Rattle.file.proofs.Checking.{start_same, pointer_stays, pointer_raised}
 
 -- ---- a read by its refusal number and how many etypes it moved, 0 if it is refused
 
-record ReadTold (h : PaperHandle) (file : List ℕ) (r : FileRecord) (o : ℤ) (c : ℕ) (before after : List ℕ) (n k : ℕ) : Type 0 where
+pub record ReadTold (h : PaperHandle) (file : List ℕ) (r : FileRecord) (o : ℤ) (c : ℕ) (before after : List ℕ) (n k : ℕ) : Type 0 where
   pub refusal : n ≡ read_refusal h (length file) r o c (length before)
   pub count : k ≡ granted n (moved h.view r.size (whole o) c) 0
   pub buffer : after ≡ granted n (read_into h.view file (whole o) k before) before
@@ -50,14 +50,14 @@ module _ (h : Handle) (file : List ℕ) (r : FileRecord) (o : ℤ) (c : ℕ) (be
   unfolding read_count
   counted = read.count ∙ ap (λ (x : ℕ). granted x (moved (view_of h) r.size (whole o) c) 0) read.refusal
 
-  at_answered : ReadAt h file r o c before after (record { refusal = n; count = k; handle = h; file = r })
+  pub at_answered : ReadAt h file r o c before after (record { refusal = n; count = k; handle = h; file = r })
   unfolding read_at_answer read_buffer
   at_answered = record {
     answer = λ i. record { refusal = read.refusal i; count = counted i; handle = h; file = r };
     buffer = read.buffer ∙ (λ i. granted (read.refusal i) (read_into (view_of h) file (whole o) (counted i) before) before);
   }
 
-  at_none : (n ≡ 0 → ⊥) → k ≡ 0
+  pub at_none : (n ≡ 0 → ⊥) → k ≡ 0
   at_none z = read.count ∙ granted_no n _ 0 z
 
 -- ---- at the pointer

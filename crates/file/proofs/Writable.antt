@@ -14,6 +14,7 @@ use Rattle.handle.proofs.Ranging.{access_sum}
 use Rattle.move_read.specs.Parts.{new_size, written}
 use Rattle.call_checks.specs.Refusals.{access_refusal, write_refusal}
 use Rattle.call_checks.proofs.Handles.{past_file, file_pointer}
+use Rattle.call_access.specs.declared.WriteOutcome.{WriteOutcome}
 use Rattle.call_access.specs.Parts.{WriteMade}
 use Rattle.call_access.proofs.Writing.{checked}
 use Rattle.file.specs.declared.Handle.{Handle}
@@ -24,16 +25,16 @@ use Rattle.file.proofs.Checking.{start_same, pointer_stays, pointer_raised}
 
 -- ---- a write by its refusal number, how many etypes it moved, and the file's record after it
 
-record WriteTold (h : PaperHandle) (before after : List ℕ) (r : FileRecord) (o : ℤ) (c : ℕ) (buffer : List ℕ) (n k : ℕ) (f : FileRecord) : Type 0 where
+pub record WriteTold (h : PaperHandle) (before after : List ℕ) (r : FileRecord) (o : ℤ) (c : ℕ) (buffer : List ℕ) (n k : ℕ) (f : FileRecord) : Type 0 where
   pub refusal : n ≡ write_refusal h (length before) r o c (length buffer)
   pub count : k ≡ granted n c 0
   pub file : f ≡ granted n (with_size r (new_size h.view r.size (whole o) c)) r
   pub bytes : after ≡ granted n (written h.view r.size (whole o) c buffer before) before
 
 module _ (h : PaperHandle) (before after : List ℕ) (r : FileRecord) (o : ℤ) (c : ℕ) (buffer : List ℕ) where
-  told_ok : (f : FileRecord) → WriteMade h before after r o c buffer (Ok f) → WriteTold h before after r o c buffer 0 c f
+  told_ok : (w : WriteOutcome) → WriteMade h before after r o c buffer (Ok w) → WriteTold h before after r o c buffer 0 w.count w.file
   unfolding refusal_in granted
-  told_ok f d = record { refusal = d.refusal; count = refl; file = d.file; bytes = d.bytes }
+  told_ok w d = record { refusal = d.refusal; count = d.count; file = d.file; bytes = d.bytes }
 
   told_err : (e : Refusal) → WriteMade h before after r o c buffer (Err e) → WriteTold h before after r o c buffer (refusal_number e) 0 r
   unfolding refusal_in
@@ -47,7 +48,7 @@ module _ (h : PaperHandle) (before after : List ℕ) (r : FileRecord) (o : ℤ) 
 -- ---- at an offset
 
 module _ (h : Handle) (file after : List ℕ) (r : FileRecord) (o : ℤ) (c : ℕ) (buf : List ℕ) (n k : ℕ) (f : FileRecord) (write : WriteTold (on_paper h) file after r o c buf n k f) where
-  at_answered : WriteAt h file after r o c buf (record { refusal = n; count = k; handle = h; file = f })
+  pub at_answered : WriteAt h file after r o c buf (record { refusal = n; count = k; handle = h; file = f })
   unfolding write_at_answer written_file
   at_answered = record {
     answer = λ i. record {
@@ -59,19 +60,20 @@ module _ (h : Handle) (file after : List ℕ) (r : FileRecord) (o : ℤ) (c : �
     bytes = write.bytes ∙ ap (λ (x : ℕ). granted x (written (view_of h) r.size (whole o) c buf file) file) write.refusal;
   }
 
-  at_none : (n ≡ 0 → ⊥) → k ≡ 0
+  pub at_none : (n ≡ 0 → ⊥) → k ≡ 0
   at_none z = write.count ∙ granted_no n c 0 z
 
 -- ---- at the pointer
 
 -- check 1 bounds the pointer, check 12 the count
-pub pointer_fits : (h : Handle) (g : PaperHandle) (l : g ≡ on_paper h) (file after : List ℕ) (r : FileRecord) (o : ℤ) (c : ℕ) (buf : List ℕ) (f : FileRecord) → WriteMade g file after r o c buf (Ok f) → Fits w64 (h.pointer + c)
+pub pointer_fits : (h : Handle) (g : PaperHandle) (l : g ≡ on_paper h) (file after : List ℕ) (r : FileRecord) (o : ℤ) (c : ℕ) (buf : List ℕ) (w : WriteOutcome) → WriteMade g file after r o c buf (Ok w) → Fits w64 (h.pointer + w.count)
 unfolding refusal_in
-pointer_fits h g l file after r o c buf f k =
-    let made : WriteMade (on_paper h) file after r o c buf (Ok f) = rw l at k in
+pointer_fits h g l file after r o c buf w k =
+    let made : WriteMade (on_paper h) file after r o c buf (Ok w) = rw l at k in
     let y = sym made.refusal in
     let j = checked (on_paper h) (length file) r o c (length buf) y in
-    record { fits = omega (arith, file_pointer (on_paper h) (length file) r j.valid, access_sum o c j.range) }
+    let count : w.count ≡ c = made.count in
+    record { fits = omega (arith, file_pointer (on_paper h) (length file) r j.valid, access_sum o c j.range, count) }
 
 module _ (h : Handle) (file : List ℕ) (r : FileRecord) (c : ℕ) (buf : List ℕ) where
   -- check 1 refuses a pointer that is no offset, whatever the offset
@@ -111,15 +113,17 @@ module _ (h : Handle) (file : List ℕ) (r : FileRecord) (c : ℕ) (buf : List �
 
 module _ (h : Handle) (g : PaperHandle) (l : g ≡ on_paper h) (file after : List ℕ) (r : FileRecord) (c : ℕ) (buf : List ℕ) where
   module _ (o : ℤ) where
-    pub at_written : (f : FileRecord) → WriteMade g file after r o c buf (Ok f) → WriteAt h file after r o c buf (record { refusal = 0; count = c; handle = h; file = f })
-    at_written f d = at_answered h file after r o c buf 0 c f (told_ok _ file after r o c buf f (rw l at d))
+    pub at_written : (w : WriteOutcome) → WriteMade g file after r o c buf (Ok w) → WriteAt h file after r o c buf (record { refusal = 0; count = w.count; handle = h; file = w.file })
+    at_written w d = at_answered h file after r o c buf 0 w.count w.file (told_ok _ file after r o c buf w (rw l at d))
 
     pub at_refused : (e : Refusal) → WriteMade g file after r o c buf (Err e) → (a : AccessAnswer) → a ≡ access_refused (refusal_number e) h r → WriteAt h file after r o c buf a
     at_refused e d a q = rw q (at_answered h file after r o c buf (refusal_number e) 0 r (told_err _ file after r o c buf e (rw l at d)))
 
   module _ (b : Offset) (s : b.0 ≡ pointer_offset h) where
-    pub next_written : (f : FileRecord) → WriteMade g file after r b.0 c buf (Ok f) → WriteNext h file after r c buf (record { refusal = 0; count = c; handle = record { mode = h.mode; pointer = h.pointer + c; view = h.view }; file = f })
-    next_written f d = told_done h file r c buf after 0 c f b s (told_ok _ file after r b.0 c buf f (rw l at d)) refl
+    pub next_written : (w : WriteOutcome) → WriteMade g file after r b.0 c buf (Ok w) → WriteNext h file after r c buf (record { refusal = 0; count = w.count; handle = record { mode = h.mode; pointer = h.pointer + w.count; view = h.view }; file = w.file })
+    next_written w d =
+        let count : w.count ≡ c = d.count in
+        rw count (told_done h file r c buf after 0 w.count w.file b s (told_ok _ file after r b.0 c buf w (rw l at d)) refl)
 
     pub next_refused : (e : Refusal) → WriteMade g file after r b.0 c buf (Err e) → (a : AccessAnswer) → a ≡ access_refused (refusal_number e) h r → WriteNext h file after r c buf a
     unfolding refusal_in

@@ -84,11 +84,11 @@ impl Handle {
             count: count,
         };
         match call_access::write(self.lent(), file, rec, access, buf) {
-            Ok(grown) => AccessAnswer {
+            Ok(written) => AccessAnswer {
                 refusal: 0,
-                count: count,
+                count: written.count,
                 handle: self,
-                file: grown,
+                file: written.file,
             },
             Err(refusal) => access_refused(refusal, self, rec),
         }
@@ -103,13 +103,13 @@ impl Handle {
             count: count,
         };
         match call_access::write(self.lent(), file, rec, access, buf) {
-            Ok(grown) => {
-                self.pointer = self.pointer + count;
+            Ok(written) => {
+                self.pointer = self.pointer + written.count;
                 AccessAnswer {
                     refusal: 0,
-                    count: count,
+                    count: written.count,
                     handle: self,
-                    file: grown,
+                    file: written.file,
                 }
             }
             Err(refused) => access_refused(refused, self, rec),

@@ -106,7 +106,7 @@ pub end_none : (v : View) (o c : ℕ) → c ≡ 0 → 0 ≡ write_end (paper v) 
 end_none v o c e = sym (write_end_none (paper v) o) ∙ ap (write_end (paper v) o) (sym e)
 
 module _ (v : View) (o : ℤ) (c : ℕ) (h : Ranged v o c) (n : c ≡ 0 → ⊥) (t : ℕ) (e : t ≡ min c v.numbers.filetype.instances) where
-  tail_few : t ≤ c
+  pub tail_few : t ≤ c
   tail_few = omega (arith, min-le_left c v.numbers.filetype.instances)
 
   tail_some : 0 < t

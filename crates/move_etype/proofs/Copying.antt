@@ -71,7 +71,7 @@ module _ (n : ℕ) (ws ds : List ℕ) where
       target_inside x q = omega (arith, h.long)
 
       module _ (l : i < n) where
-        copying_held : i < 8
+        pub copying_held : i < 8
         copying_held = entry_held n ws (widths_valid n ws ds h.lies.valid) i l
 
         pub copying_width : width_allowed (get_or ws i 0) ≡ true

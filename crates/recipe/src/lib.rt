@@ -12,6 +12,11 @@ ghost use Rattle.recipe.specs.Parts.{last_by, AllJudged};
 
 use recipe_plan::{Recipe, Refusal, StepTable};
 use recipe_steps::STEP_SIZE;
+// The refusal numbers.
+pub use recipe_plan::{
+    REFUSED_DIMENSIONS, REFUSED_ENTRIES, REFUSED_LIMITS, REFUSED_LOWER_BOUND, REFUSED_NAME,
+    REFUSED_ROOM, REFUSED_STEPS, REFUSED_ZERO,
+};
 // The kinds of steps, and a signed number of a recipe.
 pub use recipe_steps::{CONTIGUOUS, INDEXED, RESIZED, SUBARRAY, VECTOR, signed};
 // What a step names: a basic width, or an earlier step.

@@ -28,7 +28,7 @@ plan_shorter rows places n m p h = record {
 
 -- ---- what a step asks
 
-step_below : (rows places : List ℕ) (i shift widths displacements : ℕ) → PlaceAsked rows places i shift widths displacements → i < 32
+pub step_below : (rows places : List ℕ) (i shift widths displacements : ℕ) → PlaceAsked rows places i shift widths displacements → i < 32
 step_below rows places i shift widths displacements h = let s = h.plan.steps in omega arith
 
 -- a step that names a basic width
@@ -66,7 +66,7 @@ pub record Descending (rows places : List ℕ) (i shift n step : ℕ) (below : S
   pub copying : Copying places i below.extent (plan_of rows places step) shift n k ws₀ ws ds₀ ds
 
 -- it stands before the one that names it, and the numbers of its type are those that the row keeps
-named_earlier : (rows places : List ℕ) (i shift widths displacements : ℕ) (row : Row) → PlaceAsked rows places i shift widths displacements → row ≡ row_of rows i → row.source ≢ 1 → row.name < i
+pub named_earlier : (rows places : List ℕ) (i shift widths displacements : ℕ) (row : Row) → PlaceAsked rows places i shift widths displacements → row ≡ row_of rows i → row.source ≢ 1 → row.name < i
 unfolding row_of
 named_earlier rows places i shift widths displacements row h e s = rw e ((h.plan.row i (omega arith)).earlier (rw e at s))
 

@@ -110,7 +110,7 @@ pub record Copying (places : List ℕ) (i extent : ℕ) (l : List Entry) (shift 
   pub widths_long : length ws ≡ length ws₀
   pub displacements_long : length ds ≡ length ds₀
 
-basic_at_most : (row : Row) (places : List ℕ) (i shift k widths displacements to : ℕ) → BasicFits row places i shift widths displacements → k < row.copies → to ≡ copy_shift places i k shift row.name → to ≤ 2097152
+pub basic_at_most : (row : Row) (places : List ℕ) (i shift k widths displacements to : ℕ) → BasicFits row places i shift widths displacements → k < row.copies → to ≡ copy_shift places i k shift row.name → to ≤ 2097152
 unfolding copy_shift
 basic_at_most row places i shift k widths displacements to h l e = let a = h.below k l in omega arith
 

@@ -210,7 +210,7 @@ row_stays r items s i n below part span rows places rows' places' j p l k =
     }
 
 -- it keeps the limits, and the table has it
-step_kept : (steps items rows places : List ℕ) (i n : ℕ) (s : StepNumbers) (below : Shape) (rows' places' : List ℕ) (refusal : ℕ) → Facing steps items rows places i s below → copies_of (step_by items s) * below.entries ≤ 256 → n ≡ copies_of (step_by items s) → (p : StepPut items s i n below rows places rows' places' refusal) → limits_by (step_by items s) below p.span.low p.span.high ≡ true → refusal ≡ 0 → Judged (recipe_of steps items) i rows' places' refusal
+pub step_kept : (steps items rows places : List ℕ) (i n : ℕ) (s : StepNumbers) (below : Shape) (rows' places' : List ℕ) (refusal : ℕ) → Facing steps items rows places i s below → copies_of (step_by items s) * below.entries ≤ 256 → n ≡ copies_of (step_by items s) → (p : StepPut items s i n below rows places rows' places' refusal) → limits_by (step_by items s) below p.span.low p.span.high ≡ true → refusal ≡ 0 → Judged (recipe_of steps items) i rows' places' refusal
 unfolding entry_count_allowed numbers_at step_number
 step_kept steps items rows places i n s below rows' places' refusal f few copies p kept z =
     let r = recipe_of steps items in

@@ -1,3 +1,4 @@
+pub mod Spanning
 pub mod Refusing
 pub mod Making
 pub mod Middle

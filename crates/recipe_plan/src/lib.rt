@@ -23,19 +23,36 @@ pub enum Refusal {
     Room,
 }
 
+// The refusal numbers, in the order of the checks. `recipe` passes them on.
+pub const REFUSED_STEPS: u64 = 26;
+
+pub const REFUSED_NAME: u64 = 27;
+
+pub const REFUSED_ZERO: u64 = 28;
+
+pub const REFUSED_DIMENSIONS: u64 = 29;
+
+pub const REFUSED_ENTRIES: u64 = 30;
+
+pub const REFUSED_LIMITS: u64 = 31;
+
+pub const REFUSED_LOWER_BOUND: u64 = 32;
+
+pub const REFUSED_ROOM: u64 = 33;
+
 impl From<Refusal> for u64 {
     ghost from_gives = { λ refusal number. number ≡ recipe_refusal_number refusal };
 
     fn from(refusal: Refusal) -> u64 {
         match refusal {
-            Refusal::Steps => 26,
-            Refusal::Name => 27,
-            Refusal::Zero => 28,
-            Refusal::Dimensions => 29,
-            Refusal::Entries => 30,
-            Refusal::Limits => 31,
-            Refusal::LowerBound => 32,
-            Refusal::Room => 33,
+            Refusal::Steps => REFUSED_STEPS,
+            Refusal::Name => REFUSED_NAME,
+            Refusal::Zero => REFUSED_ZERO,
+            Refusal::Dimensions => REFUSED_DIMENSIONS,
+            Refusal::Entries => REFUSED_ENTRIES,
+            Refusal::Limits => REFUSED_LIMITS,
+            Refusal::LowerBound => REFUSED_LOWER_BOUND,
+            Refusal::Room => REFUSED_ROOM,
         }
     }
 }
@@ -67,15 +84,18 @@ const MAX_ENTRIES: u64 = 256;
 // The greatest extent, and the greatest end of an entry.
 const MAX_EXTENT: u64 = 1048576;
 
-// The least and the greatest of some places.
+// The least and the greatest of some places, in one walk, which the iterator's `min` and `max` would make twice.
 fn span_of(places: &[u64]) -> Span
     requires { 1 ≤ length places.now }
     ensures { Spans places.now (length places.now) result.low result.high }
 {
-    Span {
-        low: places.iter().copied().min().unwrap(),
-        high: places.iter().copied().max().unwrap(),
+    let mut low = places[0];
+    let mut high = places[0];
+    for k in 1..places.len() {
+        low = low.min(places[k]);
+        high = high.max(places[k]);
     }
+    Span { low, high }
 }
 
 // Puts the places of a step's `n` copies, and tells their span.

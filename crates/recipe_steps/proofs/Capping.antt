@@ -15,7 +15,7 @@ unfolding product
 product_more f i = rw (add-one i)
 
 -- where no factor is 0, a product is at least that of fewer factors
-product_part : (f : ℕ → ℕ) (i n : ℕ) → ((i : ℕ) → i < n → 1 ≤ f i) → i < n → product f i * f i ≤ product f n
+pub product_part : (f : ℕ → ℕ) (i n : ℕ) → ((i : ℕ) → i < n → 1 ≤ f i) → i < n → product f i * f i ≤ product f n
 unfolding product
 product_part f i zero h l = absurd (omega arith)
 product_part f i (suc n) h l =

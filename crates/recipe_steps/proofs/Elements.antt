@@ -32,7 +32,7 @@ module _ (items : List ℕ) (first n : ℕ) (a : ArrayReady items first n) (some
     small = omega (arith, a.small, size_is, mul-le-mul {n₁ = product (numbers_from items first 0) (n - 1)} {m₁ = 1} {n₂ = product (numbers_from items first 0) (n - 1)} {m₂ = item_number items (first + (n - 1)) 0} (omega arith) (sizes_some (n - 1) last_in));
   }
 
-  subsize_above : (subsize : ℕ) → subsize ≡ item_number items (first + (n - 1)) 1 → 0 < subsize
+  pub subsize_above : (subsize : ℕ) → subsize ≡ item_number items (first + (n - 1)) 1 → 0 < subsize
   subsize_above subsize e = rw e (a.some (n - 1) last_in)
 
   module _ (k size subsize start rows : ℕ) (e0 : size ≡ item_number items (first + (n - 1)) 0) (e1 : subsize ≡ item_number items (first + (n - 1)) 1) (e2 : start ≡ item_number items (first + (n - 1)) 2) where

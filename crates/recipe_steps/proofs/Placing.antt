@@ -10,7 +10,7 @@ use Rattle.recipe_steps.specs.declared.StepNumbers.{StepNumbers}
 -- ---- a run
 
 module _ (at n start : ℕ) (l l' : List ℕ) (r : Run at start n l l') (place : ℕ → ℤ) (p : Places place at l) (small : start + n ≤ 2147483648) (same : (j : ℕ) → j < n → place (at + j) ≡ sub_ℕ (start + j) 1073741824) where
-  run_places : Places place (at + n) l'
+  pub run_places : Places place (at + n) l'
   run_places = record {
     is = λ k b.
         ⊎_elim

@@ -256,3 +256,12 @@ module _ (shift : ℕ → ℤ) (l : List ℤ) (n : ℕ) (x y : ℤ) (at : ℕ) (
     each = each_highest (λ z. z) (λ k z. z +ℤ shift k) shift (λ k z. refl) l n x y p.each h;
     some = some_extreme (λ z. z) (λ k z. z +ℤ shift k) shift (λ k z. refl) l n x y p.some at below is;
   }
+
+module _ (place : ℕ → ℤ) (ex : ℕ) (l : List ℤ) (n : ℕ) (x p : ℤ) (at : ℕ) (below : at < n) (is : place at ≡ p) where
+  -- the least of copies at places counted in an extent
+  pub lowest_places : Lowest l x → ((k : ℕ) → k < n → Above p (place k)) → Lowest (joined (λ k. map (λ z. z +ℤ place k *ℤ pos ex) l) n) (x +ℤ p *ℤ pos ex)
+  lowest_places q h = lowest_joined (λ k. place k *ℤ pos ex) l n x (p *ℤ pos ex) at below (ap (λ (z : ℤ). z *ℤ pos ex) is) q (λ k b. above_times ex (h k b))
+
+  -- the greatest of copies at places counted in an extent
+  pub highest_places : Highest l x → ((k : ℕ) → k < n → Above (place k) p) → Highest (joined (λ k. map (λ z. z +ℤ place k *ℤ pos ex) l) n) (x +ℤ p *ℤ pos ex)
+  highest_places q h = highest_joined (λ k. place k *ℤ pos ex) l n x (p *ℤ pos ex) at below (ap (λ (z : ℤ). z *ℤ pos ex) is) q (λ k b. above_times ex (h k b))

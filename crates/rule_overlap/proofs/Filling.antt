@@ -11,14 +11,14 @@ use Rattle.rule_overlap.proofs.Keys.{keys_rule, keys_first}
 
 -- keys at the front of a list, as a list of their own
 module _ (value : ℕ → ℕ) (n : ℕ) (l : List ℕ) (h : n ≤ length l) where
-  part_long : n ≡ length (take n (front value n l))
+  pub part_long : n ≡ length (take n (front value n l))
   part_long = sym (length-take-le n (front value n l) (omega (arith, length_store (λ i. i) value n l)))
 
-  part_at : (i : ℕ) → i < n → nth (take n (front value n l)) i ≡ value i
+  pub part_at : (i : ℕ) → i < n → nth (take n (front value n l)) i ≡ value i
   part_at i b = get_or-take n (front value n l) i 0 b ∙ front_at value n l 0 i b (omega arith)
 
   -- keys of entries within the limits
-  part_valid : (w d : ℕ → ℕ) (f : ℕ) → 0 < n → n ≤ 256 → f ≤ 1048576 → ((i : ℕ) → i < n → value i ≡ key_of f (d i) (w i)) → ((i : ℕ) → i < n → (0 < w i) × (w i < 16)) → KeysValid (take n (front value n l)) f
+  pub part_valid : (w d : ℕ → ℕ) (f : ℕ) → 0 < n → n ≤ 256 → f ≤ 1048576 → ((i : ℕ) → i < n → value i ≡ key_of f (d i) (w i)) → ((i : ℕ) → i < n → (0 < w i) × (w i < 16)) → KeysValid (take n (front value n l)) f
   part_valid w d f some few fl is ws = record {
     some = omega (arith, part_long);
     few = omega (arith, part_long);
@@ -37,7 +37,7 @@ module _ (ws ds : List ℕ) (f : ℕ) (k : EntriesReady ws ds f) (l : List ℕ) 
     list_room : length ws ≤ length l
     list_room = omega (arith, k.few)
 
-    list_long : length ws ≡ length (take (length ws) keys)
+    pub list_long : length ws ≡ length (take (length ws) keys)
     list_long = rw list_front (part_long listed (length ws) l list_room)
 
     pub list_valid : KeysValid (take (length ws) keys) f
@@ -97,7 +97,7 @@ module _ (v : View) (k : RecordReady v) (l : List ℕ) (room : length l ≡ 256)
     some_total : 0 < total
     some_total = omega (arith, run_below v.numbers.filetype.instances v.numbers.etype.entries 0 0 k.some_instances k.some)
 
-    view_long : total ≡ length (take total keys)
+    pub view_long : total ≡ length (take total keys)
     view_long = rw e (part_long (group_key v) total l total_room)
 
     pub view_valid : KeysValid (take total keys) v.numbers.filetype.extent

@@ -106,7 +106,7 @@ module _ (f : ℕ) (a b : List ℕ) (s : Sorted a b) (v : KeysValid a f) where
       lowest = turn_lowest (λ i. nth b i / 16) (λ i. nth b i % 16) (length b) f (follow_turn h)
 
   -- sorted keys keep the rule exactly if each ends before the next begins
-  sorted_rule : keys_follow f b ≡ all (key_clear f a) (length a)
+  pub sorted_rule : keys_follow f b ≡ all (key_clear f a) (length a)
   sorted_rule = iff _ _ follow_clear clear_follow
 
   pub sorted_answer : (t : Bool) → t ≡ keys_follow f b → t ≡ all (key_clear f a) (length a)

@@ -97,7 +97,7 @@ module _ (mode : ℕ) (v : View) where
       (also_true (sym (order_step v some more o) ∙ r.filetype_ordered) (sym (view_holes_same v some more) ∙ r.holes))))))
       (ap (λ (x : Bool). either (not (allows_writing mode)) x) (overlap_same v some more r.filetype_extent r.filetype_allowed) ∙ r.overlap)))
 
-  held_accepted : view_accepted mode v ≡ accepted mode (paper v)
+  pub held_accepted : view_accepted mode v ≡ accepted mode (paper v)
   held_accepted = iff _ _ record_accepted accepted_record
 
   pub keeps_by : (t : Bool) → t ≡ view_accepted mode v → t ≡ accepted mode (paper v)

@@ -2,7 +2,7 @@
 //! Each is a value that prints itself, as by `write!`.
 #![tactic(auto)]
 
-ghost use Rattle.std.specs.Prelude.{◌≡◌};
+ghost use Rattle.std.specs.Prelude.{◌≡◌, ◌∷◌, [], pos};
 
 use std::fmt;
 use view::{Named, View};
@@ -28,6 +28,23 @@ impl<'a> Datatype<'a> {
         displacements: &[0],
         extent: 4,
     };
+
+    // The two constants, whose numbers these contracts settle.
+    pub fn byte() -> Datatype<'static>
+        ensures widths { result.widths.now ≡ 1 ∷ [] }
+        ensures displacements { result.displacements.now ≡ pos 0 ∷ [] }
+        ensures extent { result.extent ≡ pos 1 }
+    {
+        Datatype::BYTE
+    }
+
+    pub fn word() -> Datatype<'static>
+        ensures widths { result.widths.now ≡ 4 ∷ [] }
+        ensures displacements { result.displacements.now ≡ pos 0 ∷ [] }
+        ensures extent { result.extent ≡ pos 4 }
+    {
+        Datatype::WORD
+    }
 
     pub fn new(widths: &'a [u64], displacements: &'a [i64], extent: i64) -> Datatype<'a>
         ensures widths { result.widths.now ≡ widths.now }

@@ -22,7 +22,9 @@ pub enum Field {
 
 impl Field {
     // A tag of one byte and a length of two.
-    pub const HEADER_BYTES: usize = 3;
+    pub const LENGTH_BYTES: usize = 2;
+
+    pub const HEADER_BYTES: usize = 1 + Field::LENGTH_BYTES;
 }
 
 // How many bytes a number of a body takes.

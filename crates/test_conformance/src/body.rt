@@ -1,5 +1,7 @@
 // A record's body: a run of numbers of 8 bytes each, which name slots, files and lengths, and bytes that are made of a seed (docs/conformance.md).
-ghost use Rattle.std.specs.Prelude.{◌≤◌, ◌<◌, length};
+ghost use Rattle.std.specs.Prelude.{◌≡◌, ◌*◌, ◌≤◌, ◌<◌, min, drop, length};
+ghost use Rattle.laws.specs.Parts.{front};
+ghost use Rattle.tagged_fields.specs.Numbers.{number_bytes, number_from, signed_from};
 
 // How many handle slots and files the driver has.
 pub const SLOT_COUNT: usize = 4;
@@ -62,24 +64,30 @@ impl<'a> Body<'a> {
     }
 
     // What stands after the first `n` numbers.
-    pub fn after(self, n: usize) -> Body<'a> {
+    pub fn after(self, n: usize) -> Body<'a>
+        ensures { result.bytes.now ≡ drop (min (number_bytes * n) (length self.entry.bytes.now)) self.entry.bytes.now }
+    {
         let start = tagged_fields::bytes_after(self.bytes, n);
         Body {
             bytes: &self.bytes[start..],
         }
     }
 
-    // Takes the next numbers off, as many as a list has places, and puts them there: `number` reads each.
-    pub fn take_list<'b, T: Copy, F: Fn(Body<'a>, usize) -> T>(
-        &mut self,
-        list: &'b mut [T],
-        number: F,
-    ) -> &'b [T]
-        requires { F.IsAlwaysCallable number }
+    // Takes the next numbers off, as many as a list has places, and puts them there.
+    // Two functions, this one and the next, since `numbers_into` and `signed_into`, whose contracts settle what a list holds, are two.
+    pub fn take_numbers<'b>(&mut self, list: &'b mut [u64]) -> &'b [u64]
+        ensures { result.now ≡ front (number_from self.old.bytes.now 0) (length list.old) list.old }
     {
-        for (i, place) in list.iter_mut().enumerate() {
-            *place = number(*self, i);
-        }
+        tagged_fields::numbers_into(self.bytes, 0, list.len(), list);
+        *self = self.after(list.len());
+        list
+    }
+
+    // The same of signed numbers.
+    pub fn take_signed<'b>(&mut self, list: &'b mut [i64]) -> &'b [i64]
+        ensures { result.now ≡ front (signed_from self.old.bytes.now 0) (length list.old) list.old }
+    {
+        tagged_fields::signed_into(self.bytes, 0, list.len(), list);
         *self = self.after(list.len());
         list
     }

@@ -40,11 +40,13 @@ fn fills(input: &mut impl Read, buf: &mut [u8]) -> io::Result<bool> {
 
 // Reads a record, and its body to the front of `buf`.
 fn read_record<'a>(input: &mut impl Read, buf: &'a mut [u8; LONGEST_BODY]) -> io::Result<Next<'a>> {
+    // One read asks for the whole header: an input that keeps the bounds of messages may hold it in one.
     let mut header = [0; Field::HEADER_BYTES];
-    if input.read(&mut header[..1])? == 0 {
+    let got = input.read(&mut header)?;
+    if got == 0 {
         return Ok(Next::End);
     }
-    if !fills(input, &mut header[1..])? {
+    if !fills(input, &mut header[got..])? {
         return Ok(Next::Stop);
     }
     let [tag, low, high] = header;

@@ -24,8 +24,8 @@ pub fn flatten(body: Body) -> Answer {
     let mut steps = [0; LONGEST_RECIPE];
     let mut items = [0; LONGEST_RECIPE];
     let mut rest = body.after(RECIPE_NUMBERS);
-    let steps = rest.take_list(&mut steps[..body.length(3, LONGEST_RECIPE)], Body::number);
-    let items = rest.take_list(&mut items[..body.length(4, LONGEST_RECIPE)], Body::number);
+    let steps = rest.take_numbers(&mut steps[..body.length(3, LONGEST_RECIPE)]);
+    let items = rest.take_numbers(&mut items[..body.length(4, LONGEST_RECIPE)]);
     let fill = body.list_fill(2);
     let mut widths = [u64::from(fill); LONGEST_LIST];
     let mut displacements = [i64::from(fill); LONGEST_LIST];
@@ -54,10 +54,10 @@ pub fn set(body: Body, h: Handle) -> Answer {
     let mut fs = [0; LONGEST_RECIPE];
     let mut fi = [0; LONGEST_RECIPE];
     let mut rest = body.after(SET_NUMBERS);
-    let es = rest.take_list(&mut es[..body.length(2, LONGEST_RECIPE)], Body::number);
-    let ei = rest.take_list(&mut ei[..body.length(3, LONGEST_RECIPE)], Body::number);
-    let fs = rest.take_list(&mut fs[..body.length(4, LONGEST_RECIPE)], Body::number);
-    let fi = rest.take_list(&mut fi[..body.length(5, LONGEST_RECIPE)], Body::number);
+    let es = rest.take_numbers(&mut es[..body.length(2, LONGEST_RECIPE)]);
+    let ei = rest.take_numbers(&mut ei[..body.length(3, LONGEST_RECIPE)]);
+    let fs = rest.take_numbers(&mut fs[..body.length(4, LONGEST_RECIPE)]);
+    let fi = rest.take_numbers(&mut fi[..body.length(5, LONGEST_RECIPE)]);
     let a = claim_recipe::set_recipes(h, rest.bytes, body.signed(1), es, ei, fs, fi);
     Answer::of_set(a, [0; 4])
 }

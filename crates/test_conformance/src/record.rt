@@ -73,10 +73,10 @@ fn set(body: Body, h: Handle) -> Answer {
     let mut fw = [0; LONGEST_LIST];
     let mut fd = [0; LONGEST_LIST];
     let mut rest = body.after(SET_NUMBERS);
-    let ew = rest.take_list(&mut ew[..body.length(4, LONGEST_LIST)], Body::number);
-    let ed = rest.take_list(&mut ed[..body.length(5, LONGEST_LIST)], Body::signed);
-    let fw = rest.take_list(&mut fw[..body.length(6, LONGEST_LIST)], Body::number);
-    let fd = rest.take_list(&mut fd[..body.length(7, LONGEST_LIST)], Body::signed);
+    let ew = rest.take_numbers(&mut ew[..body.length(4, LONGEST_LIST)]);
+    let ed = rest.take_signed(&mut ed[..body.length(5, LONGEST_LIST)]);
+    let fw = rest.take_numbers(&mut fw[..body.length(6, LONGEST_LIST)]);
+    let fd = rest.take_signed(&mut fd[..body.length(7, LONGEST_LIST)]);
     let d = body.signed(1);
     let ex = body.signed(2);
     let fx = body.signed(3);

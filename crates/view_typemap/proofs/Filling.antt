@@ -7,7 +7,7 @@ unfolding group_width
 width_is ws n i = refl
 
 module _ (n k i : ℕ) (out : List ℤ) (r : Room n k (length out)) (l : i < length (take (k * n) out)) (origins ds : List ℕ) (s : Signed origins ds n k) where
-  sum_small : get_or origins (i / n) 0 + get_or ds (i % n) 0 < 9223372036854775808
+  pub sum_small : get_or origins (i / n) 0 + get_or ds (i % n) 0 < 9223372036854775808
   sum_small = s.small (i / n) (i % n) (runs_below k n i r.some (omega (arith, l, length-take-le (k * n) out r.room))) (mod-lt i {m = n} r.some)
 
   -- the sum, read as signed, is itself
